@@ -25,11 +25,11 @@ retired-exactly k n =
 
 -- and no other is
 pub not-retired : (k n : ℕ) → ((k ≡ 1) × (n ≡ 1) → ⊥) → retired k n ≡ false
-not-retired k n f = cases (retired k n) refl
+not-retired k n f = not-retired-by-cases (retired k n) refl
   where
-    cases : (t : Bool) → retired k n ≡ t → retired k n ≡ false
-    cases true e = absurd (f (retired-exactly k n .0 e))
-    cases false e = e
+    not-retired-by-cases : (t : Bool) → retired k n ≡ t → retired k n ≡ false
+    not-retired-by-cases true e = absurd (f (retired-exactly k n .0 e))
+    not-retired-by-cases false e = e
 
 -- the calls on words and windows, and the records of a book
 pub rank-1-taken : RankOf 1 1

@@ -136,11 +136,11 @@ room-more false s h = h
 pub roomless-answer : {A : Type 0} (numbers : A → ℤ × List ℕ) (good : A) (refuse : ℕ → A) (q t : ℕ) → roomless (numbers good) ≡ refused 14
     → ((r : ℕ) → roomless (numbers (refuse r)) ≡ refused r) → (t then 14) ≡ 14
     → roomless (numbers (pick (eqb (q then t) 0) good (refuse (q then t)))) ≡ refused (q then 14)
-roomless-answer numbers good refuse q t e f h = cases (eqb (q then t) 0) ∙ ap refused (room-then q t h)
+roomless-answer numbers good refuse q t e f h = roomless-answer-by-cases (eqb (q then t) 0) ∙ ap refused (room-then q t h)
   where
-    cases : (b : Bool) → roomless (numbers (pick b good (refuse (q then t)))) ≡ refused (pick b 14 (q then t))
-    cases true = e
-    cases false = f (q then t)
+    roomless-answer-by-cases : (b : Bool) → roomless (numbers (pick b good (refuse (q then t)))) ≡ refused (pick b 14 (q then t))
+    roomless-answer-by-cases true = e
+    roomless-answer-by-cases false = f (q then t)
 
 -- ---- refusals
 
@@ -148,20 +148,20 @@ pub listed-unchanged : {A : Type 0} {P : A → Type 0} {m : ℕ} {a : A} {x : �
     → listed x list .0 ≡ refused (suc r) → listed x list .1 ≡ list
 unfolding front listed tooShort refused
 listed-unchanged (alone k e) list r h = rw (le-ltb (length list) 0 (omega arith))
-listed-unchanged (more p l e) list r h = cases (tooShort (length l) list) h
+listed-unchanged (more p l e) list r h = listed-unchanged-by-cases (tooShort (length l) list) h
   where
-    cases : (t : Bool) → let o = pick {X = ℤ × List ℕ} t (refused 14, list) (pos p, front l list) in
+    listed-unchanged-by-cases : (t : Bool) → let o = pick {X = ℤ × List ℕ} t (refused 14, list) (pos p, front l list) in
         o .0 ≡ refused (suc r) → o .1 ≡ list
-    cases true h = refl
-    cases false h = zero-not-one (cc)
+    listed-unchanged-by-cases true h = refl
+    listed-unchanged-by-cases false h = zero-not-one (cc)
 
 pub beside-unchanged : {Outputs A : Type 0} {P : A → Type 0} {m : ℕ} {a : A} {x : ℤ × List ℕ} → Numbers P m a x → (new old : Outputs) (list : List ℕ) (r : ℕ)
     → (P a → new ≡ old) → listedBeside x new old list .0 ≡ refused (suc r) → listedBeside x new old list .1 ≡ (old, list)
 unfolding front listedBeside tooShort refused
 beside-unchanged {Outputs} (alone k e) new old list r same h = rw (le-ltb (length list) 0 (omega arith), same e)
-beside-unchanged {Outputs} (more p l e) new old list r same h = cases (tooShort (length l) list) h
+beside-unchanged {Outputs} (more p l e) new old list r same h = beside-unchanged-by-cases (tooShort (length l) list) h
   where
-    cases : (t : Bool) → let o = pick {X = ℤ × (Outputs × List ℕ)} t (refused 14, (old, list)) (pos p, (new, front l list)) in
+    beside-unchanged-by-cases : (t : Bool) → let o = pick {X = ℤ × (Outputs × List ℕ)} t (refused 14, (old, list)) (pos p, (new, front l list)) in
         o .0 ≡ refused (suc r) → o .1 ≡ (old, list)
-    cases true h = refl
-    cases false h = zero-not-one (cc)
+    beside-unchanged-by-cases true h = refl
+    beside-unchanged-by-cases false h = zero-not-one (cc)

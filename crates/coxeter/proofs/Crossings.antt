@@ -26,11 +26,11 @@ use Rattle.coxeter.proofs.PairWeights.{weight, weights, pairWeights, si
 -- ---- one pair
 
 ltb-flip : (a b : ℕ) → (a ≡ b → ⊥) → ltb a b ≡ not (ltb b a)
-ltb-flip a b d = cases (ltb b a) refl
+ltb-flip a b d = ltb-flip-by-cases (ltb b a) refl
   where
-    cases : (t : Bool) → ltb b a ≡ t → ltb a b ≡ not t
-    cases true e = le-ltb a b (omega (arith, ltb-true b a e))
-    cases false e = lt-ltb a b (omega (arith, ltb-false b a e))
+    ltb-flip-by-cases : (t : Bool) → ltb b a ≡ t → ltb a b ≡ not t
+    ltb-flip-by-cases true e = le-ltb a b (omega (arith, ltb-true b a e))
+    ltb-flip-by-cases false e = lt-ltb a b (omega (arith, ltb-false b a e))
 
 -- of two entries of different sizes one stands later
 pub later-flip : (x y : ℤ) → (natAbs y ≡ natAbs x → ⊥) → later y x ≡ not (later x y)

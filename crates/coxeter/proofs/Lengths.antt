@@ -51,16 +51,17 @@ both-ways n i j h g = omega arith
 pub length-block : (k : Kind) (n i j : ℕ) → 1 ≤ i → i ≤ levels k n → j ≤ lastIndex k n i → length (block k n i j) ≡ blockLength k n i j
 unfolding block
 length-block A n i j o h l = length-rise i j
-length-block B n i j o h l = cases (leb j n) refl
+length-block B n i j o h l = length-block-by-cases (leb j n) refl
   where
-    cases : (t : Bool) → leb j n ≡ t → length (pick t (rise i j) (rise i n ++ fall (n - 1) (2 * n - j))) ≡ suc j - i
-    cases true e = length-rise i j
-    cases false e = simp (length-append, length-rise, length-fall) (omega (arith, leb-false j n e))
-length-block D n i j o h l = cases (ltb j n) refl
+    length-block-by-cases : (t : Bool) → leb j n ≡ t → length (pick t (rise i j) (rise i n ++ fall (n - 1) (2 * n - j))) ≡ suc j - i
+    length-block-by-cases true e = length-rise i j
+    length-block-by-cases false e = simp (length-append, length-rise, length-fall) (omega (arith, leb-false j n e))
+length-block D n i j o h l = length-block-by-cases (ltb j n) refl
   where
-    cases : (t : Bool) → ltb j n ≡ t → length (pick t (rise i j) (rise i (n - 2) ++ (n ∷ fall (n - 1) (2 * n - j)))) ≡ pick t (suc j - i) (j - i)
-    cases true e = length-rise i j
-    cases false e =
+    length-block-by-cases : (t : Bool) → ltb j n ≡ t
+        → length (pick t (rise i j) (rise i (n - 2) ++ (n ∷ fall (n - 1) (2 * n - j)))) ≡ pick t (suc j - i) (j - i)
+    length-block-by-cases true e = length-rise i j
+    length-block-by-cases false e =
         let turn = ltb-false j n e in
         simp (length-append, length-rise, length-fall, way-up n i (omega arith), way-down n j (omega arith) turn (omega arith))
         (both-ways n i j (omega arith) turn)

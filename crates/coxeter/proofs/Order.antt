@@ -22,12 +22,12 @@ pub data Compared (a b : ℕ) : Type 0 where
   more : b < a → Compared a b
 
 pub compared : (a b : ℕ) → Compared a b
-compared a b = cases (eqb a b) (ltb a b) refl refl
+compared a b = compared-by-cases (eqb a b) (ltb a b) refl refl
   where
-    cases : (s t : Bool) → eqb a b ≡ s → ltb a b ≡ t → Compared a b
-    cases true t e l = same (eqb-true a b e)
-    cases false true e l = less (ltb-true a b l)
-    cases false false e l = more (let ne = eqb-false a b e in omega (arith, ltb-false a b l))
+    compared-by-cases : (s t : Bool) → eqb a b ≡ s → ltb a b ≡ t → Compared a b
+    compared-by-cases true t e l = same (eqb-true a b e)
+    compared-by-cases false true e l = less (ltb-true a b l)
+    compared-by-cases false false e l = more (let ne = eqb-false a b e in omega (arith, ltb-false a b l))
 
 -- ---- the dictionary
 
@@ -155,11 +155,11 @@ shortlex-total u v =
 
 -- of two different words exactly one comes first
 pub shortlex-asymm : (u v : List ℕ) → shortlex u v ≡ true → shortlex v u ≡ false
-shortlex-asymm u v h = cases (shortlex v u) refl
+shortlex-asymm u v h = shortlex-asymm-by-cases (shortlex v u) refl
   where
-    cases : (t : Bool) → shortlex v u ≡ t → shortlex v u ≡ false
-    cases true e = let z : true ≡ false = sym (shortlex-trans u v u h e) ∙ shortlex-irrefl u in cc
-    cases false e = e
+    shortlex-asymm-by-cases : (t : Bool) → shortlex v u ≡ t → shortlex v u ≡ false
+    shortlex-asymm-by-cases true e = let z : true ≡ false = sym (shortlex-trans u v u h e) ∙ shortlex-irrefl u in cc
+    shortlex-asymm-by-cases false e = e
 
 -- ---- the test of two windows
 

@@ -32,11 +32,11 @@ pub then-some : (r s : ℕ) → (r ≡ 0 → ⊥) → (r then s) ≡ r
 then-some r s f = rw (ne-eqb r 0 f)
 
 pub then-assoc : (r s t : ℕ) → ((r then s) then t) ≡ (r then (s then t))
-then-assoc r s t = cases (eqb r 0) refl
+then-assoc r s t = then-assoc-by-cases (eqb r 0) refl
   where
-    cases : (b : Bool) → eqb r 0 ≡ b → ((r then s) then t) ≡ (r then (s then t))
-    cases true e = rw e
-    cases false e = rw e (rw e)
+    then-assoc-by-cases : (b : Bool) → eqb r 0 ≡ b → ((r then s) then t) ≡ (r then (s then t))
+    then-assoc-by-cases true e = rw e
+    then-assoc-by-cases false e = rw e (rw e)
 
 -- the same as code meets them: r is the refusal that was computed
 pub then-refused : (q r s : ℕ) → r ≡ q → (r ≡ 0 → ⊥) → r ≡ (q then s)

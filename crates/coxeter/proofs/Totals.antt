@@ -35,13 +35,13 @@ totalled (counted.Refused r) = answer.Refused r
 
 totalled-countedOf : (r : ℕ) (c : Crossings) → totalled (countedOf r c) ≡ answerOf r (total c)
 unfolding countedOf answerOf total
-totalled-countedOf r c = cases (eqb r 0)
+totalled-countedOf r c = totalled-countedOf-by-cases (eqb r 0)
   where
-    cases : (t : Bool)
+    totalled-countedOf-by-cases : (t : Bool)
         → totalled (pick t (counted.Crossings (c .inversions) (c .negativeSumPairs) (c .negatives)) (counted.Refused r))
         ≡ pick t (answer.Length (c .inversions + c .negativeSumPairs + c .negatives)) (answer.Refused r)
-    cases true = refl
-    cases false = refl
+    totalled-countedOf-by-cases true = refl
+    totalled-countedOf-by-cases false = refl
 
 pub totalled-window : (k n : ℕ) (w : List ℤ) → totalled (crossingsOfWindow k n w) ≡ lengthOfWindow k n w
 unfolding crossingsOfWindow lengthOfWindow windowLength

@@ -48,16 +48,16 @@ pub blockLength-opposite : (k : Kind) (n i j : ℕ) → 1 ≤ i → i ≤ levels
     → blockLength k n i (i + lastIndex k n i - suc j) + blockLength k n i j ≡ blockLength k n i (lastIndex k n i)
 blockLength-opposite A n i j o h a b = omega arith
 blockLength-opposite B n i j o h a b = omega arith
-blockLength-opposite D n i j o h a b = cases (ltb j n) refl
+blockLength-opposite D n i j o h a b = blockLength-opposite-by-cases (ltb j n) refl
   where
     last : blockLength D n i (2 * n - i) ≡ 2 * n - i - i
     last = rw (le-ltb (2 * n - i) n (omega arith))
 
-    cases : (t : Bool) → ltb j n ≡ t → blockLength D n i (i + (2 * n - i) - suc j) + blockLength D n i j ≡ blockLength D n i (2 * n - i)
-    cases true e =
+    blockLength-opposite-by-cases : (t : Bool) → ltb j n ≡ t → blockLength D n i (i + (2 * n - i) - suc j) + blockLength D n i j ≡ blockLength D n i (2 * n - i)
+    blockLength-opposite-by-cases true e =
         let l = ltb-true j n e in
         rw (last, lt-ltb j n l, le-ltb (i + (2 * n - i) - suc j) n (omega arith)) (omega arith)
-    cases false e =
+    blockLength-opposite-by-cases false e =
         let l = ltb-false j n e in
         rw (last, le-ltb j n l, lt-ltb (i + (2 * n - i) - suc j) n (omega arith)) (omega arith)
 

@@ -66,22 +66,22 @@ shifted-zero f l = shifted-le 0 f l (omega arith) ∙ ap f (sub-zero l)
 
 shifted-add : (b : ℕ) (f g : ℕ → ℕ) (l : ℕ) → shifted b (λ i. f i + g i) l ≡ shifted b f l + shifted b g l
 unfolding shifted
-shifted-add b f g l = cases (ltb l b)
+shifted-add b f g l = shifted-add-by-cases (ltb l b)
   where
-    cases : (t : Bool) → pick t 0 (f (l - b) + g (l - b)) ≡ pick t 0 (f (l - b)) + pick t 0 (g (l - b))
-    cases true = omega arith
-    cases false = refl
+    shifted-add-by-cases : (t : Bool) → pick t 0 (f (l - b) + g (l - b)) ≡ pick t 0 (f (l - b)) + pick t 0 (g (l - b))
+    shifted-add-by-cases true = omega arith
+    shifted-add-by-cases false = refl
 
 shifted-shifted : (a b : ℕ) (f : ℕ → ℕ) (l : ℕ) → shifted a (shifted b f) l ≡ shifted (a + b) f l
-shifted-shifted a b f l = cases (ltb l a) refl (ltb (l - a) b) refl
+shifted-shifted a b f l = shifted-shifted-by-cases (ltb l a) refl (ltb (l - a) b) refl
   where
-    cases : (s : Bool) → ltb l a ≡ s → (t : Bool) → ltb (l - a) b ≡ t → shifted a (shifted b f) l ≡ shifted (a + b) f l
-    cases true p t q = let h = ltb-true l a p in shifted-lt a (shifted b f) l h ∙ sym (shifted-lt (a + b) f l (omega arith))
-    cases false p true q =
+    shifted-shifted-by-cases : (s : Bool) → ltb l a ≡ s → (t : Bool) → ltb (l - a) b ≡ t → shifted a (shifted b f) l ≡ shifted (a + b) f l
+    shifted-shifted-by-cases true p t q = let h = ltb-true l a p in shifted-lt a (shifted b f) l h ∙ sym (shifted-lt (a + b) f l (omega arith))
+    shifted-shifted-by-cases false p true q =
         let h = ltb-false l a p in
         let g = ltb-true (l - a) b q in
         shifted-le a (shifted b f) l h ∙ shifted-lt b f (l - a) g ∙ sym (shifted-lt (a + b) f l (omega arith))
-    cases false p false q =
+    shifted-shifted-by-cases false p false q =
         let h = ltb-false l a p in
         let g = ltb-false (l - a) b q in
         let e : l - a - b ≡ l - (a + b) = omega arith in
@@ -150,22 +150,22 @@ running-same (suc c) f g l h =
 keep-append : {X : Type 0} (t : X → Bool) (a b : List X) → keep t (a ++ b) ≡ keep t a ++ keep t b
 unfolding keep
 keep-append t [] b = refl
-keep-append {X} t (x ∷ a) b = cases (t x) (keep-append t a b)
+keep-append {X} t (x ∷ a) b = keep-append-by-cases (t x) (keep-append t a b)
   where
-    cases : (s : Bool) → keep t (a ++ b) ≡ keep t a ++ keep t b
+    keep-append-by-cases : (s : Bool) → keep t (a ++ b) ≡ keep t a ++ keep t b
         → pick s (x ∷ keep t (a ++ b)) (keep t (a ++ b)) ≡ pick s (x ∷ keep t a) (keep t a) ++ keep t b
-    cases true e = ap (λ (l : List X). x ∷ l) e
-    cases false e = e
+    keep-append-by-cases true e = ap (λ (l : List X). x ∷ l) e
+    keep-append-by-cases false e = e
 
 length-keep-map : {X Y : Type 0} (t : Y → Bool) (f : X → Y) (l : List X) → length (keep t (map f l)) ≡ length (keep (λ x. t (f x)) l)
 unfolding keep
 length-keep-map t f [] = refl
-length-keep-map t f (x ∷ l) = cases (t (f x)) (length-keep-map t f l)
+length-keep-map t f (x ∷ l) = length-keep-map-by-cases (t (f x)) (length-keep-map t f l)
   where
-    cases : (s : Bool) → length (keep t (map f l)) ≡ length (keep (λ x. t (f x)) l)
+    length-keep-map-by-cases : (s : Bool) → length (keep t (map f l)) ≡ length (keep (λ x. t (f x)) l)
         → length (pick s (f x ∷ keep t (map f l)) (keep t (map f l))) ≡ length (pick s (x ∷ keep (λ x. t (f x)) l) (keep (λ x. t (f x)) l))
-    cases true e = ap suc e
-    cases false e = e
+    length-keep-map-by-cases true e = ap suc e
+    length-keep-map-by-cases false e = e
 
 length-keep-consAll : {X : Type 0} (t : List X → Bool) (xs : List X) (ls : List (List X))
     → length (keep t (consAll xs ls)) ≡ sum (map (λ x. length (keep (λ l. t (x ∷ l)) ls)) xs)
@@ -179,16 +179,16 @@ length-keep-consAll t (x ∷ xs) ls =
 -- the numbers of a measure with b added
 one-shifted : (c b l : ℕ) → one (eqb (c + b) l) ≡ shifted b (λ i. one (eqb c i)) l
 unfolding one
-one-shifted c b l = cases (ltb l b) refl (eqb (c + b) l) refl
+one-shifted c b l = one-shifted-by-cases (ltb l b) refl (eqb (c + b) l) refl
   where
-    cases : (s : Bool) → ltb l b ≡ s → (t : Bool) → eqb (c + b) l ≡ t → pick t 1 0 ≡ shifted b (λ i. pick (eqb c i) 1 0) l
-    cases true p true q = absurd (omega (arith, ltb-true l b p, eqb-true (c + b) l q))
-    cases true p false q = sym (shifted-lt b (λ i. pick (eqb c i) 1 0) l (ltb-true l b p))
-    cases false p true q =
+    one-shifted-by-cases : (s : Bool) → ltb l b ≡ s → (t : Bool) → eqb (c + b) l ≡ t → pick t 1 0 ≡ shifted b (λ i. pick (eqb c i) 1 0) l
+    one-shifted-by-cases true p true q = absurd (omega (arith, ltb-true l b p, eqb-true (c + b) l q))
+    one-shifted-by-cases true p false q = sym (shifted-lt b (λ i. pick (eqb c i) 1 0) l (ltb-true l b p))
+    one-shifted-by-cases false p true q =
         let h = ltb-false l b p in
         let g = eqb-true (c + b) l q in
         rw (shifted-le b (λ i. pick (eqb c i) 1 0) l h, eq-eqb c (l - b) (omega arith))
-    cases false p false q =
+    one-shifted-by-cases false p false q =
         let h = ltb-false l b p in
         let g = eqb-false (c + b) l q in
         rw (shifted-le b (λ i. pick (eqb c i) 1 0) l h, ne-eqb c (l - b) (λ e. g (omega arith)))

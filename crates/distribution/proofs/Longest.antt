@@ -38,11 +38,11 @@ last-of-length : (k : Kind) (n i j : ℕ) → 1 ≤ i → i ≤ levels k n → i
     → blockLength k n i (lastIndex k n i) ≤ blockLength k n i j → j ≡ lastIndex k n i
 last-of-length A n i j o h a b l = omega arith
 last-of-length B n i j o h a b l = omega arith
-last-of-length D n i j o h a b l = cases (ltb j n) refl (rw (le-ltb (2 * n - i) n (omega arith)) at l)
+last-of-length D n i j o h a b l = last-of-length-by-cases (ltb j n) refl (rw (le-ltb (2 * n - i) n (omega arith)) at l)
   where
-    cases : (t : Bool) → ltb j n ≡ t → 2 * n - i - i ≤ blockLength D n i j → j ≡ 2 * n - i
-    cases true e q = let g = ltb-true j n e in absurd (omega (arith, rw (lt-ltb j n g) at q))
-    cases false e q = let g = ltb-false j n e in omega (arith, rw (le-ltb j n g) at q)
+    last-of-length-by-cases : (t : Bool) → ltb j n ≡ t → 2 * n - i - i ≤ blockLength D n i j → j ≡ 2 * n - i
+    last-of-length-by-cases true e q = let g = ltb-true j n e in absurd (omega (arith, rw (lt-ltb j n g) at q))
+    last-of-length-by-cases false e q = let g = ltb-false j n e in omega (arith, rw (le-ltb j n g) at q)
 
 last-indices : (k : Kind) (n : ℕ) {i : ℕ} {js : List ℕ} → 1 ≤ i → Indices k n i js
     → blockLengths k n i (lastIndices k n i (length js)) ≤ blockLengths k n i js → js ≡ lastIndices k n i (length js)

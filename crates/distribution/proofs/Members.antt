@@ -54,31 +54,31 @@ keep-no t x l e = rw e
 pub in-keep : {X : Type 0} (t : X → Bool) (x : X) (l : List X) → t x ≡ true → In x l → In x (keep t l)
 unfolding keep
 in-keep t x (y ∷ l) h (List·Memᴰ·head e) = rw (ap t (sym e) ∙ h) (List·Memᴰ·head e)
-in-keep t x (y ∷ l) h (List·Memᴰ·tail m) = cases (t y) (in-keep t x l h m)
+in-keep t x (y ∷ l) h (List·Memᴰ·tail m) = in-keep-by-cases (t y) (in-keep t x l h m)
   where
-    cases : (b : Bool) → In x (keep t l) → In x (pick b (y ∷ keep t l) (keep t l))
-    cases true i = List·Memᴰ·tail i
-    cases false i = i
+    in-keep-by-cases : (b : Bool) → In x (keep t l) → In x (pick b (y ∷ keep t l) (keep t l))
+    in-keep-by-cases true i = List·Memᴰ·tail i
+    in-keep-by-cases false i = i
 
 pub of-keep : {X : Type 0} (t : X → Bool) (x : X) (l : List X) → In x (keep t l) → In x l × (t x ≡ true)
 of-keep t x [] m = unfold keep in elim m [ ]
-of-keep t x (y ∷ l) m = cases (t y) refl (of-keep t x l)
+of-keep t x (y ∷ l) m = of-keep-by-cases (t y) refl (of-keep t x l)
   where
     next : In x l × (t x ≡ true) → In x (y ∷ l) × (t x ≡ true)
     next h = (List·Memᴰ·tail (h .0), h .1)
 
-    cases : (b : Bool) → t y ≡ b → (In x (keep t l) → In x l × (t x ≡ true)) → In x (y ∷ l) × (t x ≡ true)
-    cases true e ih = ⊎-elim (λ q. (List·Memᴰ·head q, ap t q ∙ e)) (λ i. next (ih i)) (List·Memᴰ·cases-cons (rw (keep-yes t y l e) at m))
-    cases false e ih = next (ih (rw (keep-no t y l e) at m))
+    of-keep-by-cases : (b : Bool) → t y ≡ b → (In x (keep t l) → In x l × (t x ≡ true)) → In x (y ∷ l) × (t x ≡ true)
+    of-keep-by-cases true e ih = ⊎-elim (λ q. (List·Memᴰ·head q, ap t q ∙ e)) (λ i. next (ih i)) (List·Memᴰ·cases-cons (rw (keep-yes t y l e) at m))
+    of-keep-by-cases false e ih = next (ih (rw (keep-no t y l e) at m))
 
 pub once-keep : {X : Type 0} (t : X → Bool) (l : List X) → Once l → Once (keep t l)
 unfolding keep
 once-keep t [] o = tt
-once-keep t (x ∷ l) o = cases (t x) (once-keep t l (o .1))
+once-keep t (x ∷ l) o = once-keep-by-cases (t x) (once-keep t l (o .1))
   where
-    cases : (b : Bool) → Once (keep t l) → Once (pick b (x ∷ keep t l) (keep t l))
-    cases true r = (λ m. o .0 (of-keep t x l m .0), r)
-    cases false r = r
+    once-keep-by-cases : (b : Bool) → Once (keep t l) → Once (pick b (x ∷ keep t l) (keep t l))
+    once-keep-by-cases true r = (λ m. o .0 (of-keep t x l m .0), r)
+    once-keep-by-cases false r = r
 
 -- ---- mapped
 

@@ -59,11 +59,11 @@ below-le f l m h = le-ind (λ (x : ℕ). below f l ≤ below f x) (le-refl (belo
 pub le-below : (f : ℕ → ℕ) (m l : ℕ) → l < m → f l ≤ below f m
 unfolding below
 le-below f zero l o = absurd (omega arith)
-le-below f (suc m) l o = cases (ltb l m) refl (le-below f m l)
+le-below f (suc m) l o = le-below-by-cases (ltb l m) refl (le-below f m l)
   where
-    cases : (t : Bool) → ltb l m ≡ t → (l < m → f l ≤ below f m) → f l ≤ below f m + f m
-    cases true e ih = omega (arith, ih (ltb-true l m e))
-    cases false e ih = let q : l ≡ m = omega (arith, ltb-false l m e) in rw q (omega arith)
+    le-below-by-cases : (t : Bool) → ltb l m ≡ t → (l < m → f l ≤ below f m) → f l ≤ below f m + f m
+    le-below-by-cases true e ih = omega (arith, ih (ltb-true l m e))
+    le-below-by-cases false e ih = let q : l ≡ m = omega (arith, ltb-false l m e) in rw q (omega arith)
 
 -- ---- how often
 
@@ -73,24 +73,24 @@ timesOf f xs l = length (keep (λ x. eqb (f x) l) xs)
 
 pub timesOf-cons : {X : Type 0} (f : X → ℕ) (x : X) (xs : List X) (l : ℕ) → timesOf f (x ∷ xs) l ≡ one (eqb (f x) l) + timesOf f xs l
 unfolding timesOf keep one
-timesOf-cons f x xs l = cases (eqb (f x) l)
+timesOf-cons f x xs l = timesOf-cons-by-cases (eqb (f x) l)
   where
-    cases : (t : Bool)
+    timesOf-cons-by-cases : (t : Bool)
         → length (pick t (x ∷ keep (λ x. eqb (f x) l) xs) (keep (λ x. eqb (f x) l) xs)) ≡ pick t 1 0 + length (keep (λ x. eqb (f x) l) xs)
-    cases true = omega arith
-    cases false = omega arith
+    timesOf-cons-by-cases true = omega arith
+    timesOf-cons-by-cases false = omega arith
 
 below-one : (c m : ℕ) → below (λ l. one (eqb c l)) m ≡ one (ltb c m)
 unfolding below one
 below-one c zero = rw (le-ltb c 0 (omega arith))
-below-one c (suc m) = cases (eqb c m) refl (ltb c m) refl (below-one c m)
+below-one c (suc m) = below-one-by-cases (eqb c m) refl (ltb c m) refl (below-one c m)
   where
-    cases : (s : Bool) → eqb c m ≡ s → (t : Bool) → ltb c m ≡ t → below (λ l. pick (eqb c l) 1 0) m ≡ pick t 1 0
+    below-one-by-cases : (s : Bool) → eqb c m ≡ s → (t : Bool) → ltb c m ≡ t → below (λ l. pick (eqb c l) 1 0) m ≡ pick t 1 0
         → below (λ l. pick (eqb c l) 1 0) m + pick s 1 0 ≡ pick (ltb c (suc m)) 1 0
-    cases true p true q h = absurd (omega (arith, eqb-true c m p, ltb-true c m q))
-    cases true p false q h = rw (lt-ltb c (suc m) (omega (arith, eqb-true c m p))) (omega arith)
-    cases false p true q h = rw (lt-ltb c (suc m) (omega (arith, ltb-true c m q))) (omega arith)
-    cases false p false q h =
+    below-one-by-cases true p true q h = absurd (omega (arith, eqb-true c m p, ltb-true c m q))
+    below-one-by-cases true p false q h = rw (lt-ltb c (suc m) (omega (arith, eqb-true c m p))) (omega arith)
+    below-one-by-cases false p true q h = rw (lt-ltb c (suc m) (omega (arith, ltb-true c m q))) (omega arith)
+    below-one-by-cases false p false q h =
         let ne = eqb-false c m p in
         rw (le-ltb c (suc m) (omega (arith, ltb-false c m q))) (omega arith)
 

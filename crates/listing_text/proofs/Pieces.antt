@@ -31,11 +31,11 @@ lines-presets ed b (suc t) i = rw (lines-presets ed b t (suc i))
 -- all lines are the listing
 pub lines-all : (ed : Edition) (b : List ℕ) → lines ed b (lineCount ed b) 0 ≡ listing ed b
 unfolding lineCount listing lineCountBy lines line firstLine listingBy
-lines-all ed b = by-answer (checkedBook ed b) refl
+lines-all ed b = lines-all-by-answer (checkedBook ed b) refl
   where
-    by-answer : (o : Opened) → o ≡ checkedBook ed b → lines ed b (lineCountBy o) 0 ≡ listingBy ed b o
-    by-answer (opened.Presets c) e = rw (← e, lines-presets ed b c 0)
-    by-answer (opened.Refused r) e = rw (← e) (append-nil _)
+    lines-all-by-answer : (o : Opened) → o ≡ checkedBook ed b → lines ed b (lineCountBy o) 0 ≡ listingBy ed b o
+    lines-all-by-answer (opened.Presets c) e = rw (← e, lines-presets ed b c 0)
+    lines-all-by-answer (opened.Refused r) e = rw (← e) (append-nil _)
 
 pub lines-append : (ed : Edition) (b : List ℕ) (s t i : ℕ) → lines ed b s i ++ lines ed b t (i + s) ≡ lines ed b (s + t) i
 unfolding lines

@@ -111,27 +111,31 @@ presets-le ed b c e =
 
 pub lineCount-le : (ed : Edition) (b : List ℕ) → lineCount ed b ≤ 32768
 unfolding lineCount lineCountBy
-lineCount-le ed b = by-answer (checkedBook ed b) refl
+lineCount-le ed b = lineCount-le-by-answer (checkedBook ed b) refl
   where
-    by-answer : (o : Opened) → o ≡ checkedBook ed b → lineCountBy o ≤ 32768
-    by-answer (opened.Presets c) e = omega (arith, presets-le ed b c e)
-    by-answer (opened.Refused r) e = omega arith
+    lineCount-le-by-answer : (o : Opened) → o ≡ checkedBook ed b → lineCountBy o ≤ 32768
+    lineCount-le-by-answer (opened.Presets c) e = omega (arith, presets-le ed b c e)
+    lineCount-le-by-answer (opened.Refused r) e = omega arith
 
 length-firstLine-le : (ed : Edition) (b : List ℕ) → length (firstLine (checkedBook ed b)) ≤ 29
 unfolding firstLine countLine refusedBookLine refused
-length-firstLine-le ed b = by-answer (checkedBook ed b) refl
+length-firstLine-le ed b = length-firstLine-le-by-answer (checkedBook ed b) refl
   where
-    by-answer : (o : Opened) → o ≡ checkedBook ed b → length (firstLine o) ≤ 29
-    by-answer (opened.Presets c) e = let l = presets-le ed b c e in simp length-append (omega (arith, length-decimal-word c (omega arith)))
-    by-answer (opened.Refused r) e = let l = refused-opened ed b r e in simp length-append (omega (arith, length-decimal-byte r (omega arith)))
+    length-firstLine-le-by-answer : (o : Opened) → o ≡ checkedBook ed b → length (firstLine o) ≤ 29
+    length-firstLine-le-by-answer (opened.Presets c) e =
+        let l = presets-le ed b c e in
+        simp length-append (omega (arith, length-decimal-word c (omega arith)))
+    length-firstLine-le-by-answer (opened.Refused r) e =
+        let l = refused-opened ed b r e in
+        simp length-append (omega (arith, length-decimal-byte r (omega arith)))
 
 length-lineOf-le : (ed : Edition) (b : List ℕ) (i : ℕ) → i < 2 ^ 64 → length (lineOf ed b i) ≤ longest
 unfolding lineOf lineBy refusedLine refused
-length-lineOf-le ed b i h = by-answer (checkedPreset ed b i) refl
+length-lineOf-le ed b i h = length-lineOf-le-by-answer (checkedPreset ed b i) refl
   where
-    by-answer : (p : Preset) → p ≡ checkedPreset ed b i → length (lineBy b i p) ≤ longest
-    by-answer (preset.Found k n s l) e = length-wordLine-le i k n (take l (drop s b)) h (found-rank (found e))
-    by-answer (preset.Refused r) e =
+    length-lineOf-le-by-answer : (p : Preset) → p ≡ checkedPreset ed b i → length (lineBy b i p) ≤ longest
+    length-lineOf-le-by-answer (preset.Found k n s l) e = length-wordLine-le i k n (take l (drop s b)) h (found-rank (found e))
+    length-lineOf-le-by-answer (preset.Refused r) e =
         let l = presetRefusal-le ed b i in
         let q = refused-is ed b i r e in
         simp length-append (omega (arith, length-decimal-word i h, length-decimal-byte r (omega arith)))

@@ -97,14 +97,14 @@ module _ (ed : Edition) (b : List ℕ) (k n : ℕ) (u before after : List ℕ) (
   pub append-line : (i : ℕ) → i < count b → lineOf ed (take l after) i ≡ lineOf ed b i
   append-line i h =
       let q = append-before ed b k n u before after l c i h in
-      by-answer (checkedPreset ed b i) refl (q .0) (q .1)
+      append-line-by-answer (checkedPreset ed b i) refl (q .0) (q .1)
     where
-      by-answer : (p : Preset) → p ≡ checkedPreset ed b i → checkedPreset ed (take l after) i ≡ checkedPreset ed b i
+      append-line-by-answer : (p : Preset) → p ≡ checkedPreset ed b i → checkedPreset ed (take l after) i ≡ checkedPreset ed b i
           → lettersOf ed (take l after) i ≡ lettersOf ed b i
           → lineOf ed (take l after) i ≡ lineOf ed b i
-      by-answer (preset.Found x y s m) e f g =
+      append-line-by-answer (preset.Found x y s m) e f g =
           line-found ed (take l after) i x y s m (f ∙ sym e) ∙ ap (wordLine i (kindOf x) y) g ∙ sym (line-found ed b i x y s m (sym e))
-      by-answer (preset.Refused r) e f g = line-refused ed (take l after) i r (f ∙ sym e) ∙ sym (line-refused ed b i r (sym e))
+      append-line-by-answer (preset.Refused r) e f g = line-refused ed (take l after) i r (f ∙ sym e) ∙ sym (line-refused ed b i r (sym e))
 
   -- B18, B19, P3: the listing of the new book: its count, the lines of the old one, and the line of the preset
   -- appended

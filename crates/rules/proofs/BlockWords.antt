@@ -92,20 +92,20 @@ mem-getD (a ∷ l) (suc i) h = List·Memᴰ·tail (mem-getD l i (omega arith))
 
 -- how long a block of level i can be
 pub block-short : (k : Kind) (n i j : ℕ) → 1 ≤ i → i ≤ levels k n → j ≤ lastIndex k n i → length (block k n i j) + 2 * i ≤ 2 * n + 1
-block-short k n i j o h l = rw (length-block k n i j o h l) (cases k l h)
+block-short k n i j o h l = rw (length-block k n i j o h l) (block-short-by-cases k l h)
   where
-    cases : (k : Kind) → j ≤ lastIndex k n i → i ≤ levels k n → blockLength k n i j + 2 * i ≤ 2 * n + 1
-    cases A l h = omega arith
-    cases B l h = omega arith
-    cases D l h = elim (decLe n j) [ yes t ↦ rw (le-ltb j n t) (omega arith) | no t ↦ rw (lt-ltb j n (lt-of-not-le t)) (omega arith) ]
+    block-short-by-cases : (k : Kind) → j ≤ lastIndex k n i → i ≤ levels k n → blockLength k n i j + 2 * i ≤ 2 * n + 1
+    block-short-by-cases A l h = omega arith
+    block-short-by-cases B l h = omega arith
+    block-short-by-cases D l h = elim (decLe n j) [ yes t ↦ rw (le-ltb j n t) (omega arith) | no t ↦ rw (lt-ltb j n (lt-of-not-le t)) (omega arith) ]
 
 pub block-nonempty : (k : Kind) (n i j : ℕ) → 1 ≤ i → i ≤ levels k n → i ≤ j → j ≤ lastIndex k n i → 1 ≤ length (block k n i j)
-block-nonempty k n i j o h g l = rw (length-block k n i j o h l) (cases k l h)
+block-nonempty k n i j o h g l = rw (length-block k n i j o h l) (block-nonempty-by-cases k l h)
   where
-    cases : (k : Kind) → j ≤ lastIndex k n i → i ≤ levels k n → 1 ≤ blockLength k n i j
-    cases A l h = omega arith
-    cases B l h = omega arith
-    cases D l h = elim (decLe n j) [ yes t ↦ rw (le-ltb j n t) (omega arith) | no t ↦ rw (lt-ltb j n (lt-of-not-le t)) (omega arith) ]
+    block-nonempty-by-cases : (k : Kind) → j ≤ lastIndex k n i → i ≤ levels k n → 1 ≤ blockLength k n i j
+    block-nonempty-by-cases A l h = omega arith
+    block-nonempty-by-cases B l h = omega arith
+    block-nonempty-by-cases D l h = elim (decLe n j) [ yes t ↦ rw (le-ltb j n t) (omega arith) | no t ↦ rw (lt-ltb j n (lt-of-not-le t)) (omega arith) ]
 
 pub along-nonempty : (k : Kind) (n i j : ℕ) → least k ≤ n → Along k n i j → 1 ≤ length (block k n i j)
 along-nonempty k n i j h (start o l e) = rw (e, block-one k n i h l) (omega arith)

@@ -100,13 +100,13 @@ rewrite-refused-exactly {k} {n} {u} {p} {before} w r f =
     refused : (c ≡ 0 → ⊥) → rewriteAt single k n u p before .answer ≡ Refused c
     refused g = rw (place-checks k n u p, ne-eqb _ 0 g)
 
-    by : (o : Option Rule) → rewriteBy single o u p before .answer ≡ Refused r → ⊥
-    by none e = zero-not-one (cc)
-    by (some x) e = by-room (leb (length (rewritten x u p)) (length before)) e
+    passed-by-rule : (o : Option Rule) → rewriteBy single o u p before .answer ≡ Refused r → ⊥
+    passed-by-rule none e = zero-not-one (cc)
+    passed-by-rule (some x) e = passed-by-room (leb (length (rewritten x u p)) (length before)) e
       where
-        by-room : (t : Bool) → pick t (changed single x (rewritten x u p) before) (unchanged single (Refused 14) u before) .answer ≡ Refused r → ⊥
-        by-room true e = zero-not-one (cc)
-        by-room false e = f (cc)
+        passed-by-room : (t : Bool) → pick t (changed single x (rewritten x u p) before) (unchanged single (Refused 14) u before) .answer ≡ Refused r → ⊥
+        passed-by-room true e = zero-not-one (cc)
+        passed-by-room false e = f (cc)
 
     passed : c ≡ 0 → rewriteAt single k n u p before .answer ≡ Refused r → ⊥
-    passed z e = by (firstFitting (rules (kindOf k) n) u p) (rw (place-checks k n u p, eq-eqb c 0 z) at e)
+    passed z e = passed-by-rule (firstFitting (rules (kindOf k) n) u p) (rw (place-checks k n u p, eq-eqb c 0 z) at e)

@@ -22,21 +22,21 @@ SomeBit x = (t : ℕ) × (x / 2 ^ t % 2 ≡ 1)
 
 someBit : (f x : ℕ) → x ≤ f → 1 ≤ x → SomeBit x
 someBit zero x l o = absurd (omega arith)
-someBit (suc f) x l o = cases (x % 2) refl (someBit f (x / 2) (omega arith))
+someBit (suc f) x l o = someBit-by-cases (x % 2) refl (someBit f (x / 2) (omega arith))
   where
-    cases : (b : ℕ) → x % 2 ≡ b → (1 ≤ x / 2 → SomeBit (x / 2)) → SomeBit x
-    cases zero e r =
+    someBit-by-cases : (b : ℕ) → x % 2 ≡ b → (1 ≤ x / 2 → SomeBit (x / 2)) → SomeBit x
+    someBit-by-cases zero e r =
         let b = r (omega arith) in
         (1 + b .0, ap (λ (y : ℕ). y % 2) (sym (shr-shr x 1 (b .0))) ∙ b .1)
-    cases (suc b) e r = let o : x / 1 % 2 ≡ 1 = omega (arith, e) in (0, o)
+    someBit-by-cases (suc b) e r = let o : x / 1 % 2 ≡ 1 = omega (arith, e) in (0, o)
 
 -- a number with bit t is 2 to the t or more
 pow-le-of-bit : (x t : ℕ) → x / 2 ^ t % 2 ≡ 1 → 2 ^ t ≤ x
-pow-le-of-bit x t e = cases (leb (2 ^ t) x) refl
+pow-le-of-bit x t e = pow-le-of-bit-by-cases (leb (2 ^ t) x) refl
   where
-    cases : (b : Bool) → leb (2 ^ t) x ≡ b → 2 ^ t ≤ x
-    cases true h = leb-true (2 ^ t) x h
-    cases false h = absurd (omega (arith, e, div-eq-of-lt (leb-false (2 ^ t) x h)))
+    pow-le-of-bit-by-cases : (b : Bool) → leb (2 ^ t) x ≡ b → 2 ^ t ≤ x
+    pow-le-of-bit-by-cases true h = leb-true (2 ^ t) x h
+    pow-le-of-bit-by-cases false h = absurd (omega (arith, e, div-eq-of-lt (leb-false (2 ^ t) x h)))
 
 -- S1: step s is allowed exactly when bit s − 1 is 1, with any bits above it and any below it
 pub allows-exactly : (set s : ℕ) → (allows set s ≡ true)
@@ -70,21 +70,21 @@ wrongSet-exactly n set = (
 -- the same by a shift, and for a number of 64 bits at rank 64
 pub wrongSet-shifted : (n set : ℕ) → (set / 2 ^ n ≡ 0 → ⊥) → wrongSet n set ≡ true
 unfolding wrongSet
-wrongSet-shifted n set f = cases (leb (2 ^ n) set) refl
+wrongSet-shifted n set f = wrongSet-shifted-by-cases (leb (2 ^ n) set) refl
   where
-    cases : (b : Bool) → leb (2 ^ n) set ≡ b → b ≡ true
-    cases true e = refl
-    cases false e = absurd (f (div-eq-of-lt (leb-false (2 ^ n) set e)))
+    wrongSet-shifted-by-cases : (b : Bool) → leb (2 ^ n) set ≡ b → b ≡ true
+    wrongSet-shifted-by-cases true e = refl
+    wrongSet-shifted-by-cases false e = absurd (f (div-eq-of-lt (leb-false (2 ^ n) set e)))
 
 pub rightSet-shifted : (n set : ℕ) → set / 2 ^ n ≡ 0 → wrongSet n set ≡ false
 unfolding wrongSet
-rightSet-shifted n set e = cases (leb (2 ^ n) set) refl
+rightSet-shifted n set e = rightSet-shifted-by-cases (leb (2 ^ n) set) refl
   where
-    cases : (b : Bool) → leb (2 ^ n) set ≡ b → b ≡ false
-    cases true h =
+    rightSet-shifted-by-cases : (b : Bool) → leb (2 ^ n) set ≡ b → b ≡ false
+    rightSet-shifted-by-cases true h =
         let q = le-div-iff-mul-le {k = 2 ^ n} {x = 1} {y = set} (pow-pos n) .1 (omega (arith, leb-true (2 ^ n) set h)) in
         absurd (omega (arith, e, q))
-    cases false h = refl
+    rightSet-shifted-by-cases false h = refl
 
 pub rightSet-full : (n set : ℕ) → 64 ≤ n → set < 2 ^ 64 → wrongSet n set ≡ false
 unfolding wrongSet

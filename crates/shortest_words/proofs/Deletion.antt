@@ -77,7 +77,7 @@ deletion-from : (k : Kind) (n : ℕ) (x y : List ℕ) → least k ≤ n → wron
     → windowLength k (window k n (x ++ y)) < length (x ++ y) → TwoLetters k n (x ++ y)
 deletion-from k n x [] h e q g = let f = rw append-nil at g in absurd (omega arith)
 deletion-from k n x (s ∷ y) h e q g =
-    cases (crossed k n s (window k n x)) refl
+    deletion-from-by-cases (crossed k n s (window k n x)) refl
     (λ longer.
     subst (TwoLetters k n) (append-snoc x s y)
     (deletion-from k n (x ++ (s ∷ [])) y h (ap (wrongLetter n) (append-snoc x s y) ∙ e) longer (rw append-snoc g)))
@@ -91,12 +91,12 @@ deletion-from k n x (s ∷ y) h e q g =
     here : (1 ≤ s) × (s ≤ n) × (wrongLetter n y ≡ false)
     here = letter-within-cons n s y (or-false-right (wrongLetter n x) (wrongLetter n (s ∷ y)) letters)
 
-    cases : (t : Bool) → crossed k n s (window k n x) ≡ t
+    deletion-from-by-cases : (t : Bool) → crossed k n s (window k n x) ≡ t
         → (length (x ++ (s ∷ [])) ≡ windowLength k (added k n x s) → TwoLetters k n (x ++ (s ∷ y))) → TwoLetters k n (x ++ (s ∷ y))
-    cases true d next =
+    deletion-from-by-cases true d next =
         let lower = length-of-crossed k n s (window k n x) h (here .0) (here .1) (window-accepted k n x) d in
         exchange-within k n x s y (exchange k n x s h front (here .0) (here .1) (omega (arith, ap (windowLength k) (window-snoc k n x s))))
-    cases false d next =
+    deletion-from-by-cases false d next =
         let higher = length-of-uncrossed k n s (window k n x) h (here .0) (here .1) (window-accepted k n x) d in
         next (length-append x (s ∷ []) ∙ omega (arith, ap (windowLength k) (window-snoc k n x s)))
 

@@ -28,11 +28,11 @@ not-descent k n s w g = le-ltb (windowLength k (act k n s w)) (windowLength k w)
 module _ (k : Kind) (n s : ℕ) (w : List ℤ) (h : least k ≤ n) (o : 1 ≤ s) (l : s ≤ n) (a : Accepted k n w) where
   -- one comparison of entries decides it
   pub descent-crossed : isDescent k n s w ≡ crossed k n s w
-  descent-crossed = cases (crossed k n s w) refl
+  descent-crossed = descent-crossed-by-cases (crossed k n s w) refl
     where
-      cases : (t : Bool) → crossed k n s w ≡ t → isDescent k n s w ≡ t
-      cases true e = descent-of-shorter k n s w (omega (arith, length-of-crossed k n s w h o l a e))
-      cases false e = not-descent k n s w (omega (arith, length-of-uncrossed k n s w h o l a e))
+      descent-crossed-by-cases : (t : Bool) → crossed k n s w ≡ t → isDescent k n s w ≡ t
+      descent-crossed-by-cases true e = descent-of-shorter k n s w (omega (arith, length-of-crossed k n s w h o l a e))
+      descent-crossed-by-cases false e = not-descent k n s w (omega (arith, length-of-uncrossed k n s w h o l a e))
 
   pub length-of-descent : isDescent k n s w ≡ true → windowLength k w ≡ windowLength k (act k n s w) + 1
   length-of-descent e = length-of-crossed k n s w h o l a (sym descent-crossed ∙ e)

@@ -82,23 +82,23 @@ module _ (k : Kind) (n : ℕ) (u : List ℕ) (h : least k ≤ n) (e : wrongLette
   kept-rising : (i : ℕ) (w : List ℤ) (ps : List ℕ) → i ≤ length u → Rising (length u) i ps → Rising (length u) 0 (placesKept k n u i w ps)
   unfolding placesKept
   kept-rising zero w ps l r = r
-  kept-rising (suc i) w ps l r = kept-rising i (descended k n (getD u i 0) w) _ (omega arith) (cases (isDescent k n (getD u i 0) w))
+  kept-rising (suc i) w ps l r = kept-rising i (descended k n (getD u i 0) w) _ (omega arith) (kept-rising-by-cases (isDescent k n (getD u i 0) w))
     where
-      cases : (t : Bool) → Rising (length u) i (pick t (i ∷ ps) ps)
-      cases true = (omega arith, l, r)
-      cases false = rising-from (length u) (suc i) i ps (omega arith) r
+      kept-rising-by-cases : (t : Bool) → Rising (length u) i (pick t (i ∷ ps) ps)
+      kept-rising-by-cases true = (omega arith, l, r)
+      kept-rising-by-cases false = rising-from (length u) (suc i) i ps (omega arith) r
 
   -- their letters lead from what is left of the target to the target
   kept-leads : (i : ℕ) (w : List ℤ) (ps : List ℕ)
       → windowFrom k n (leftOver k n u i w) (subwordAt u (placesKept k n u i w ps)) ≡ windowFrom k n w (subwordAt u ps)
   unfolding leftOver placesKept subwordAt windowFrom descended
   kept-leads zero w ps = refl
-  kept-leads (suc i) w ps = kept-leads i _ _ ∙ cases (isDescent k n (getD u i 0) w)
+  kept-leads (suc i) w ps = kept-leads i _ _ ∙ kept-leads-by-cases (isDescent k n (getD u i 0) w)
     where
-      cases : (t : Bool)
+      kept-leads-by-cases : (t : Bool)
           → windowFrom k n (pick t (act k n (getD u i 0) w) w) (subwordAt u (pick t (i ∷ ps) ps)) ≡ windowFrom k n w (subwordAt u ps)
-      cases true = ap (λ (x : List ℤ). windowFrom k n x (subwordAt u ps)) (act-involution k n (getD u i 0) w)
-      cases false = refl
+      kept-leads-by-cases true = ap (λ (x : List ℤ). windowFrom k n x (subwordAt u ps)) (act-involution k n (getD u i 0) w)
+      kept-leads-by-cases false = refl
 
   -- there are as many of them as the target has become shorter
   kept-count : (i : ℕ) (w : List ℤ) (ps : List ℕ) → i ≤ length u → Accepted k n w
@@ -108,14 +108,14 @@ module _ (k : Kind) (n : ℕ) (u : List ℕ) (h : least k ≤ n) (e : wrongLette
   kept-count (suc i) w ps l a =
       kept-count i (descended k n (getD u i 0) w) (pick (isDescent k n (getD u i 0) w) (i ∷ ps) ps) (omega arith)
       (descended-accepted k n (getD u i 0) w a)
-      ∙ cases (isDescent k n (getD u i 0) w) refl
+      ∙ kept-count-by-cases (isDescent k n (getD u i 0) w) refl
     where
-      cases : (t : Bool) → isDescent k n (getD u i 0) w ≡ t
+      kept-count-by-cases : (t : Bool) → isDescent k n (getD u i 0) w ≡ t
           → length (pick t (i ∷ ps) ps) + windowLength k (descended k n (getD u i 0) w) ≡ length ps + windowLength k w
-      cases true t =
+      kept-count-by-cases true t =
           rw (descended-step k n (getD u i 0) w t)
           (omega (arith, length-of-descent k n (getD u i 0) w h (letter-at n u i l e .0) (letter-at n u i l e .1) a t))
-      cases false t = rw (descended-same k n (getD u i 0) w t)
+      kept-count-by-cases false t = rw (descended-same k n (getD u i 0) w t)
 
   -- ---- the verdict
 

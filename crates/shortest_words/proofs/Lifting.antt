@@ -75,7 +75,7 @@ module _ (k : Kind) (n : ℕ) (u : List ℕ) (s : ℕ) (h : least k ≤ n) (e : 
     left : SubwordWith k n u w → Ends w
 
   ends : (w : List ℤ) → HasSubword k n (u ++ (s ∷ [])) w → Ends w
-  ends w f = cases (subword-split u (p .subword)) refl
+  ends w f = ends-by-cases (subword-split u (p .subword)) refl
     where
       p : SubwordWith k n (u ++ (s ∷ [])) w
       p = subword-of-fallback k n (u ++ (s ∷ [])) w f
@@ -85,8 +85,8 @@ module _ (k : Kind) (n : ℕ) (u : List ℕ) (s : ℕ) (h : least k ≤ n) (e : 
           kept (record { word = v; subword = q; shows = sym (act-involution k n s (window k n v)) ∙ ap (act k n s) (sym (window-snoc k n v s) ∙ g) })
       last {v} q (leave none) g = left (record { word = v; subword = q; shows = ap (window k n) (sym (append-nil v)) ∙ g })
 
-      cases : {x : List ℕ} → Split u (s ∷ []) x → x ≡ p .word → Ends w
-      cases (both q r) g = last q r (ap (window k n) g ∙ p .shows)
+      ends-by-cases : {x : List ℕ} → Split u (s ∷ []) x → x ≡ p .word → Ends w
+      ends-by-cases (both q r) g = last q r (ap (window k n) g ∙ p .shows)
 
   -- w is a fallback of u with the step added exactly when w stepped back is one of u
   pub lifting-shorter : (w : List ℤ) → Accepted k n w → isDescent k n s w ≡ true → HasSubword k n (u ++ (s ∷ [])) w ↔ HasSubword k n u (act k n s w)
@@ -112,8 +112,8 @@ module _ (k : Kind) (n : ℕ) (u : List ℕ) (s : ℕ) (h : least k ≤ n) (e : 
 
   -- both at once: exactly when the target after the letter s is one of u
   pub lifting : (w : List ℤ) → Accepted k n w → HasSubword k n (u ++ (s ∷ [])) w ↔ HasSubword k n u (descended k n s w)
-  lifting w a = cases (isDescent k n s w) refl
+  lifting w a = lifting-by-cases (isDescent k n s w) refl
     where
-      cases : (t : Bool) → isDescent k n s w ≡ t → HasSubword k n (u ++ (s ∷ [])) w ↔ HasSubword k n u (descended k n s w)
-      cases true t = rw (descended-step k n s w t) (lifting-shorter w a t)
-      cases false t = rw (descended-same k n s w t) (lifting-longer w a t)
+      lifting-by-cases : (t : Bool) → isDescent k n s w ≡ t → HasSubword k n (u ++ (s ∷ [])) w ↔ HasSubword k n u (descended k n s w)
+      lifting-by-cases true t = rw (descended-step k n s w t) (lifting-shorter w a t)
+      lifting-by-cases false t = rw (descended-same k n s w t) (lifting-longer w a t)

@@ -41,7 +41,7 @@ record Left (k : Kind) (n : ℕ) (v : List ℕ) (w : List ℤ) : Type 0 where
 
 left : (allowed : ℕ → Bool) {k : Kind} {n : ℕ} (u : List ℕ) {v : List ℕ} {w : List ℤ} → least k ≤ n → wrongLetter n (u ++ v) ≡ false → Over allowed u
     → NoneBegins allowed k n w → window k n (u ++ v) ≡ w → Left k n v w
-left allowed {k} {n} u {v} {w} h e o b q = cases (subword-split u (r .subword)) refl
+left allowed {k} {n} u {v} {w} h e o b q = left-by-cases (subword-split u (r .subword)) refl
   where
     r : Shortened k n (u ++ v)
     r = shortened k n (u ++ v) h e
@@ -51,8 +51,8 @@ left allowed {k} {n} u {v} {w} h e o b q = cases (subword-split u (r .subword)) 
     ends (a ∷ x) y s t g =
         absurd (b a (x ++ y) (over-head allowed a x (over-subword allowed s o)) (rw g (r .shortest)) (ap (window k n) g ∙ r .shows ∙ q))
 
-    cases : {x : List ℕ} → Split u v x → x ≡ r .word → Left k n v w
-    cases (both {v = x} {y} s t) g = ends x y s t g
+    left-by-cases : {x : List ℕ} → Split u v x → x ≡ r .word → Left k n v w
+    left-by-cases (both {v = x} {y} s t) g = ends x y s t g
 
 -- ---- two splits
 

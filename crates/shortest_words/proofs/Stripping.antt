@@ -57,7 +57,7 @@ module _ (allowed : ℕ → Bool) (k : Kind) (n : ℕ) where
   lowest-is : (t s : ℕ) (x : List ℤ) → Lowest t s x (lowest allowed k n t s x)
   unfolding lowest
   lowest-is zero s x = ended (λ j g l a. absurd (omega arith))
-  lowest-is (suc t) s x = cases (allowed s && isDescent k n s x) refl (lowest-is t (suc s) x)
+  lowest-is (suc t) s x = lowest-is-by-cases (allowed s && isDescent k n s x) refl (lowest-is t (suc s) x)
     where
       higher : (allowed s ≡ true → isDescent k n s x ≡ false) → {o : Option ℕ} → Lowest t (suc s) x o → Lowest (suc t) s x o
       higher f (found {j} q) =
@@ -66,12 +66,12 @@ module _ (allowed : ℕ → Bool) (k : Kind) (n : ℕ) where
       higher f (ended q) =
           ended (λ j g l a. elim (ℕ-discrete s j) [ yes e ↦ rw (← e) (f (rw e a)) | no e ↦ q j (omega arith) (omega arith) a ])
 
-      cases : (b : Bool) → (allowed s && isDescent k n s x) ≡ b → Lowest t (suc s) x (lowest allowed k n t (suc s) x)
+      lowest-is-by-cases : (b : Bool) → (allowed s && isDescent k n s x) ≡ b → Lowest t (suc s) x (lowest allowed k n t (suc s) x)
           → Lowest (suc t) s x (pick b (some s) (lowest allowed k n t (suc s) x))
-      cases true e r =
+      lowest-is-by-cases true e r =
           let c = and-eq-true-iff (allowed s) (isDescent k n s x) .0 e in
           found {j = s} (record { above = omega arith; below = omega arith; is-allowed = c .0; shorter = c .1 })
-      cases false e r = higher (λ a. rw a at e) r
+      lowest-is-by-cases false e r = higher (λ a. rw a at e) r
 
   -- ---- steps taken
 
@@ -107,15 +107,15 @@ module _ (allowed : ℕ → Bool) (k : Kind) (n : ℕ) where
   stripped-strips : (t : ℕ) (x : List ℤ) → least k ≤ n → Accepted k n x → windowLength k x ≤ t → Strips x (stripped allowed k n t x)
   unfolding stripped
   stripped-strips zero x h a l = strips-nothing x (λ j g m b. not-descent k n j x (omega arith))
-  stripped-strips (suc t) x h a l = cases (lowest-is n 1 x) (λ s. stripped-strips t (act k n s x) h (act-accepted k n s x a))
+  stripped-strips (suc t) x h a l = stripped-strips-by-cases (lowest-is n 1 x) (λ s. stripped-strips t (act k n s x) h (act-accepted k n s x a))
     where
       after : ℕ → List ℤ
       after s = stripped allowed k n t (act k n s x)
 
-      cases : {o : Option ℕ} → Lowest n 1 x o → ((s : ℕ) → windowLength k (act k n s x) ≤ t → Strips (act k n s x) (after s))
+      stripped-strips-by-cases : {o : Option ℕ} → Lowest n 1 x o → ((s : ℕ) → windowLength k (act k n s x) ≤ t → Strips (act k n s x) (after s))
           → Strips x (elim o [ none ↦ x | some s ↦ after s ])
-      cases (ended e) r = strips-nothing x e
-      cases (found {j} f) r =
+      stripped-strips-by-cases (ended e) r = strips-nothing x e
+      stripped-strips-by-cases (found {j} f) r =
           let m : j ≤ n = omega (arith, f .below) in
           let shorter = length-of-descent k n j x h (f .above) m a (f .shorter) in
           strips-first j h a (f .above) m (f .is-allowed) (f .shorter) (r j (omega (arith, shorter)))

@@ -36,11 +36,11 @@ module _ (k : Kind) (n s : ℕ) (h : least k ≤ n) (o : 1 ≤ s) (l : s ≤ n) 
   -- a step changes the length of a window by exactly one
   pub length-act : (w : List ℤ) → WindowOf k n w
       → (windowLength k (act k n s w) ≡ windowLength k w + 1) ⊎ (windowLength k w ≡ windowLength k (act k n s w) + 1)
-  length-act w p = cases (isDescent k n s w) refl
+  length-act w p = length-act-by-cases (isDescent k n s w) refl
     where
-      cases : (t : Bool) → isDescent k n s w ≡ t → OneApart (windowLength k (act k n s w)) (windowLength k w)
-      cases true t = inr (length-of-descent k n s w h o l (accepted-of-refusal k n w p) t)
-      cases false t = inl (length-of-ascent k n s w h o l (accepted-of-refusal k n w p) t)
+      length-act-by-cases : (t : Bool) → isDescent k n s w ≡ t → OneApart (windowLength k (act k n s w)) (windowLength k w)
+      length-act-by-cases true t = inr (length-of-descent k n s w h o l (accepted-of-refusal k n w p) t)
+      length-act-by-cases false t = inl (length-of-ascent k n s w h o l (accepted-of-refusal k n w p) t)
 
   -- adding a step at the end of a word, shortest or not
   pub length-added : (u : List ℕ) → (windowLength k (added k n u s) ≡ windowLength k (window k n u) + 1)

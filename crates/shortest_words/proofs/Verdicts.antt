@@ -133,15 +133,15 @@ pub data FallbackCase (q : ℕ) (t short : Bool) (l : ℕ) : Fallback → Type 0
 pub fallback-case : (q : ℕ) (t short : Bool) (l : ℕ) → FallbackCase q t short l (fallbackOf (q then check 14 (t && short)) t l)
 unfolding fallbackOf
 fallback-case q t short l = elim (ℕ-discrete q 0) [
-  | yes z ↦ rw (eq-eqb q 0 z) (cases z t short refl refl)
+  | yes z ↦ rw (eq-eqb q 0 z) (fallback-case-by-cases z t short refl refl)
   | no f ↦ rw (ne-eqb q 0 f) (rw (ne-eqb q 0 f) (is-refused f))
 ]
   where
-    cases : q ≡ 0 → (b c : Bool) → t ≡ b → short ≡ c → FallbackCase q t short l
+    fallback-case-by-cases : q ≡ 0 → (b c : Bool) → t ≡ b → short ≡ c → FallbackCase q t short l
         (pick (eqb (check 14 (b && c)) 0) (pick b (Kept l) No) (Refused (check 14 (b && c))))
-    cases z true true e d = is-short z e d
-    cases z true false e d = is-kept z e d
-    cases z false c e d = is-no z e
+    fallback-case-by-cases z true true e d = is-short z e d
+    fallback-case-by-cases z true false e d = is-kept z e d
+    fallback-case-by-cases z false c e d = is-no z e
 
 module _ {q : ℕ} {t short : Bool} {l : ℕ} where
   pub no-means : {a : Fallback} → FallbackCase q t short l a → a ≡ No → (q ≡ 0) × (t ≡ false)
@@ -194,12 +194,12 @@ fallbackAnswer-refused k n present simpler places f = rw (ne-eqb (rankRefusal k 
 
 fallbackOf-kept : (r : ℕ) (t : Bool) (m l : ℕ) → fallbackOf r t m ≡ Kept l → l ≡ m
 unfolding fallbackOf
-fallbackOf-kept r t m l e = cases (eqb r 0) t e
+fallbackOf-kept r t m l e = fallbackOf-kept-by-cases (eqb r 0) t e
   where
-    cases : (s t : Bool) → pick s (pick t (Kept m) No) (Refused r) ≡ Kept l → l ≡ m
-    cases true true e = cc
-    cases true false e = zero-not-one (cc)
-    cases false t e = zero-not-one (cc)
+    fallbackOf-kept-by-cases : (s t : Bool) → pick s (pick t (Kept m) No) (Refused r) ≡ Kept l → l ≡ m
+    fallbackOf-kept-by-cases true true e = cc
+    fallbackOf-kept-by-cases true false e = zero-not-one (cc)
+    fallbackOf-kept-by-cases false t e = zero-not-one (cc)
 
 module _ (k n : ℕ) (present simpler places after : List ℕ) where
   -- F5: a no writes nothing, nor does a refusal

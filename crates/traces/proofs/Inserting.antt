@@ -200,7 +200,7 @@ module _ (k : Kind) (n : ℕ) (h : least k ≤ n) where
     -- if the step made the window shorter, a letter of a b could be deleted: none of a, since a x is shortest,
     -- and none of b
     shorter : (v : List ℕ) → Normal k n v → window k n v ≡ window k n (a ++ (x ∷ b)) → length v < length (a ++ (x ∷ b)) → ⊥
-    shorter v q e g = cases (crossed k n s (window k n (a ++ b))) refl
+    shorter v q e g = shorter-by-cases (crossed k n s (window k n (a ++ b))) refl
       where
         u : List ℕ
         u = a ++ b
@@ -232,11 +232,11 @@ module _ (k : Kind) (n : ℕ) (h : least k ≤ n) where
         short : windowLength k (added k n u s) ≤ length v
         short = omega (arith, ap (windowLength k) (sym w ∙ sym e), windowLength-le k n v h (q .letters))
 
-        cases : (t : Bool) → crossed k n s (window k n u) ≡ t → ⊥
-        cases true d =
+        shorter-by-cases : (t : Bool) → crossed k n s (window k n u) ≡ t → ⊥
+        shorter-by-cases true d =
             let y = length-of-crossed k n s (window k n u) h o l (window-accepted k n u) d in
             deleted (exchange k n u s h (m .letters) o l (omega (arith, ap (windowLength k) (window-snoc k n u s))))
-        cases false d =
+        shorter-by-cases false d =
             let y = length-of-uncrossed k n s (window k n u) h o l (window-accepted k n u) d in
             omega (arith, ap (windowLength k) (window-snoc k n u s), long, short, length-append a (x ∷ b), length-append a b)
 

@@ -65,7 +65,7 @@ module _ (k : Kind) (n i j : ℕ) (h : least k ≤ n) (o : 1 ≤ i) (g : i ≤ l
 
   pub index-is : (m l : ℕ) → suc m ≡ length (block k n i j) → l ≡ getD (block k n i j) m 0 → j ≡ indexBy k n i (suc m) l
   unfolding indexBy
-  index-is m l e f = by-last (rw (← f) at (last-is m e))
+  index-is m l e f = index-is-by-last (rw (← f) at (last-is m e))
     where
       length-is-blockLength : suc m ≡ blockLength k n i j
       length-is-blockLength = e ∙ length-block k n i j o g b
@@ -80,11 +80,11 @@ module _ (k : Kind) (n i j : ℕ) (h : least k ≤ n) (o : 1 ≤ i) (g : i ≤ l
       up-to B t q = omega arith
       up-to D t q = let y : suc m ≡ suc j - i = q ∙ rw (lt-ltb j n t) in omega arith
 
-      by-last : Last n i j l → j ≡ pick (eqb l n) n (pick (ltb (i + suc m - 1) n) (i + suc m - 1) (past k (i + suc m - 1)))
-      by-last (rising q s t) =
+      index-is-by-last : Last n i j l → j ≡ pick (eqb l n) n (pick (ltb (i + suc m - 1) n) (i + suc m - 1) (past k (i + suc m - 1)))
+      index-is-by-last (rising q s t) =
           let y = up-to k t length-is-blockLength in
           rw (ne-eqb l n (omega arith), lt-ltb (i + suc m - 1) n (omega arith)) (sym y)
-      by-last (falling s q) = elim (ℕ-discrete j n) [
+      index-is-by-last (falling s q) = elim (ℕ-discrete j n) [
         | yes t ↦ rw (eq-eqb l n (omega arith)) t
         | no t ↦
             let y = turned k (omega arith) length-is-blockLength b (omega (arith, corner-le k n (levels k n) (corner-levels k n h))) in

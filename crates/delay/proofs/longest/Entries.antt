@@ -55,25 +55,25 @@ last-positive (suc m) h =
 odd-mod : (n : ℕ) → pick (odd n) 1 0 ≡ n % 2
 unfolding odd
 odd-mod zero = refl
-odd-mod (suc n) = cases (odd n) (odd-mod n)
+odd-mod (suc n) = odd-mod-by-cases (odd n) (odd-mod n)
   where
-    cases : (t : Bool) → pick t 1 0 ≡ n % 2 → pick (not t) 1 0 ≡ suc n % 2
-    cases true e = omega arith
-    cases false e = omega arith
+    odd-mod-by-cases : (t : Bool) → pick t 1 0 ≡ n % 2 → pick (not t) 1 0 ≡ suc n % 2
+    odd-mod-by-cases true e = omega arith
+    odd-mod-by-cases false e = omega arith
 
 even-of-zero : (n : ℕ) → n % 2 ≡ 0 → odd n ≡ false
-even-of-zero n e = cases (odd n) (odd-mod n)
+even-of-zero n e = even-of-zero-by-cases (odd n) (odd-mod n)
   where
-    cases : (t : Bool) → pick t 1 0 ≡ n % 2 → t ≡ false
-    cases true h = absurd (omega arith)
-    cases false h = refl
+    even-of-zero-by-cases : (t : Bool) → pick t 1 0 ≡ n % 2 → t ≡ false
+    even-of-zero-by-cases true h = absurd (omega arith)
+    even-of-zero-by-cases false h = refl
 
 odd-of-other : (n : ℕ) → (n % 2 ≡ 0 → ⊥) → odd n ≡ true
-odd-of-other n f = cases (odd n) (odd-mod n)
+odd-of-other n f = odd-of-other-by-cases (odd n) (odd-mod n)
   where
-    cases : (t : Bool) → pick t 1 0 ≡ n % 2 → t ≡ true
-    cases true h = refl
-    cases false h = absurd (f (sym h))
+    odd-of-other-by-cases : (t : Bool) → pick t 1 0 ≡ n % 2 → t ≡ true
+    odd-of-other-by-cases true h = refl
+    odd-of-other-by-cases false h = absurd (f (sym h))
 
 -- ---- the longest window, entry by entry, by cases as code has them
 

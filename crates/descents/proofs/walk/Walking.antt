@@ -173,13 +173,13 @@ module _ (w : List ℤ) (i : ℕ) (h : i < length w) where
       rw (add-one i, take-suc w i (pos 0) h, take-suc (identity (length w)) i (pos 0) inside, t, entry, entry-identity)
 
   pub identity-differs : (ofZ w8 (getD w i (pos 0)) ≡ i + 1 → ⊥) → false ≡ sameWindow w (identity (length w))
-  identity-differs f = cases (sameWindow w (identity (length w))) refl
+  identity-differs f = identity-differs-by-cases (sameWindow w (identity (length w))) refl
     where
-      cases : (t : Bool) → sameWindow w (identity (length w)) ≡ t → false ≡ t
-      cases true e =
+      identity-differs-by-cases : (t : Bool) → sameWindow w (identity (length w)) ≡ t → false ≡ t
+      identity-differs-by-cases true e =
           let q = sameWindow-true w (identity (length w)) e in
           absurd (f (ap (λ (x : ℤ). ofZ w8 x) (ap (λ (l : List ℤ). getD l i (pos 0)) q ∙ entry-identity)))
-      cases false e = refl
+      identity-differs-by-cases false e = refl
 
 pub identity-end : (w : List ℤ) (i : ℕ) → length w ≤ i → take i w ≡ take i (identity (length w)) → true ≡ sameWindow w (identity (length w))
 identity-end w i l t =

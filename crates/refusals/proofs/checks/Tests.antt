@@ -115,13 +115,14 @@ pub flag-flipped : (w : List ℤ) (i : ℕ) {flag minus : Bool} {next : Bool} �
     → (flag ≡ true → minus ≡ true → next ≡ false) → (flag ≡ true → minus ≡ false → next ≡ true)
     → (flag ≡ false → minus ≡ true → next ≡ true) → (flag ≡ false → minus ≡ false → next ≡ false)
     → next ≡ flagAfter (take (i + 1) w)
-flag-flipped w i {flag} {minus} {next} h e q yes-flips yes-stays no-flips no-stays = by-case flag minus refl refl ∙ sym (flag-next w i h ∙ rw (q, ← e))
+flag-flipped w i {flag} {minus} {next} h e q yes-flips yes-stays no-flips no-stays =
+    flag-flipped-by-cases flag minus refl refl ∙ sym (flag-next w i h ∙ rw (q, ← e))
   where
-    by-case : (t s : Bool) → flag ≡ t → minus ≡ s → next ≡ pick s (not t) t
-    by-case true true = yes-flips
-    by-case true false = yes-stays
-    by-case false true = no-flips
-    by-case false false = no-stays
+    flag-flipped-by-cases : (t s : Bool) → flag ≡ t → minus ≡ s → next ≡ pick s (not t) t
+    flag-flipped-by-cases true true = yes-flips
+    flag-flipped-by-cases true false = yes-stays
+    flag-flipped-by-cases false true = no-flips
+    flag-flipped-by-cases false false = no-stays
 
 -- ---- windows
 

@@ -32,12 +32,13 @@ weights-from : (m : ℕ) (x : ℤ) (w : List ℤ) → 1 ≤ natAbs x → natAbs 
     → weights x w + pick (negative x) 0 (fromSize m (natAbs x) w) ≡ length w + pick (negative x) (fromSize m (natAbs x) w) 0
 unfolding behind
 weights-from m x w a c b d =
-    rw (weights-behind x w, length-map w natAbs) (by-sign (negative x) (smaller (natAbs x) (map natAbs w)) (fromSize-add-smaller m (natAbs x) w a c b d))
+    rw (weights-behind x w, length-map w natAbs)
+    (weights-from-by-sign (negative x) (smaller (natAbs x) (map natAbs w)) (fromSize-add-smaller m (natAbs x) w a c b d))
   where
-    by-sign : (t : Bool) (s : ℕ) → fromSize m (natAbs x) w + s ≡ length w
+    weights-from-by-sign : (t : Bool) (s : ℕ) → fromSize m (natAbs x) w + s ≡ length w
         → pick t (2 * length w - s) s + pick t 0 (fromSize m (natAbs x) w) ≡ length w + pick t (fromSize m (natAbs x) w) 0
-    by-sign true s e = omega arith
-    by-sign false s e = omega arith
+    weights-from-by-sign true s e = omega arith
+    weights-from-by-sign false s e = omega arith
 
 -- ---- all entries
 
@@ -75,21 +76,22 @@ pairWeights-pass m (x ∷ w) b d =
 changes-le : (m : ℕ) (w : List ℤ) → Between 1 (1 + m) w → Distinct w → raised m w + lowered m w ≤ triangle (length w)
 unfolding raised lowered triangle
 changes-le m [] b d = omega arith
-changes-le m (e ∷ w) b d = by-sign (negative e) (fromSize-add-smaller m (natAbs e) w (b .0) (omega (arith, b .1)) (b .2) (d .1)) (changes-le m w (b .2) (d .1))
+changes-le m (e ∷ w) b d =
+    changes-le-by-sign (negative e) (fromSize-add-smaller m (natAbs e) w (b .0) (omega (arith, b .1)) (b .2) (d .1)) (changes-le m w (b .2) (d .1))
   where
-    by-sign : (t : Bool) → fromSize m (natAbs e) w + smaller (natAbs e) (map natAbs w) ≡ length w → raised m w + lowered m w ≤ triangle (length w)
+    changes-le-by-sign : (t : Bool) → fromSize m (natAbs e) w + smaller (natAbs e) (map natAbs w) ≡ length w → raised m w + lowered m w ≤ triangle (length w)
         → pick t (fromSize m (natAbs e) w) 0 + raised m w + (pick t 0 (fromSize m (natAbs e) w) + lowered m w) ≤ length w + triangle (length w)
-    by-sign true q r = omega arith
-    by-sign false q r = omega arith
+    changes-le-by-sign true q r = omega arith
+    changes-le-by-sign false q r = omega arith
 
 lack-le : (m : ℕ) (w : List ℤ) → m ≤ 64 → lackOfNegatives m w ≤ 64 * length w
 unfolding lackOfNegatives
 lack-le m [] l = omega arith
-lack-le m (e ∷ w) l = by-sign (negative e) (lack-le m w l)
+lack-le m (e ∷ w) l = lack-le-by-sign (negative e) (lack-le m w l)
   where
-    by-sign : (t : Bool) → lackOfNegatives m w ≤ 64 * length w → pick t (m - natAbs e) 0 + lackOfNegatives m w ≤ 64 * suc (length w)
-    by-sign true r = omega arith
-    by-sign false r = omega arith
+    lack-le-by-sign : (t : Bool) → lackOfNegatives m w ≤ 64 * length w → pick t (m - natAbs e) 0 + lackOfNegatives m w ≤ 64 * suc (length w)
+    lack-le-by-sign true r = omega arith
+    lack-le-by-sign false r = omega arith
 
 -- ---- the pass
 

@@ -51,12 +51,12 @@ behind t a l = pick t (2 * length l - smaller a l) (smaller a l)
 
 pub weights-behind : (x : ℤ) (w : List ℤ) → weights x w ≡ behind (negative x) (natAbs x) (map natAbs w)
 unfolding behind
-weights-behind x w = rw (length-map w natAbs) (by-sign (negative x) refl)
+weights-behind x w = rw (length-map w natAbs) (weights-behind-by-sign (negative x) refl)
   where
-    by-sign : (t : Bool) → negative x ≡ t
+    weights-behind-by-sign : (t : Bool) → negative x ≡ t
         → weights x w ≡ pick t (2 * length w - smaller (natAbs x) (map natAbs w)) (smaller (natAbs x) (map natAbs w))
-    by-sign true e = omega (arith, weights-of-negative x w e)
-    by-sign false e = weights-of-positive x w e
+    weights-behind-by-sign true e = omega (arith, weights-of-negative x w e)
+    weights-behind-by-sign false e = weights-of-positive x w e
 
 -- ---- all entries
 

@@ -34,11 +34,11 @@ module _ (k : Kind) (m place left : ℕ) (h : Place k m place) (l : left < 2 ^ m
 
   pub index-le : (odd : Bool) → indexAt k m place left odd ≤ 2 * m
   unfolding indexAt
-  index-le odd = by-sign (pick (signChanged k (behindAt place left) odd) (not (isNegative place)) (isNegative place)) (behindAt place left) few
+  index-le odd = index-le-by-sign (pick (signChanged k (behindAt place left) odd) (not (isNegative place)) (isNegative place)) (behindAt place left) few
     where
-      by-sign : (t : Bool) (b : ℕ) → b ≤ m - 1 → indexBehind m t b ≤ 2 * m
-      by-sign true b f = omega arith
-      by-sign false b f = omega arith
+      index-le-by-sign : (t : Bool) (b : ℕ) → b ≤ m - 1 → indexBehind m t b ≤ 2 * m
+      index-le-by-sign true b f = omega arith
+      index-le-by-sign false b f = omega arith
 
   -- in A every block goes up only
   pub index-lt : (odd : Bool) → k ≡ A → indexAt k m place left odd < m
