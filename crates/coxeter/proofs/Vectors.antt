@@ -44,7 +44,7 @@ pub verdicts : List (Verdict × Verdict)
 verdicts =
     (presetsEqual 1 2 (1 ∷ 2 ∷ 1 ∷ []) 1 2 (2 ∷ 1 ∷ 2 ∷ []), verdict.Yes)
     ∷ (presetsEqual 1 2 (1 ∷ []) 1 2 (2 ∷ []), verdict.No)
-    -- another lane count; another kind with the same lanes, straight and with two mirrored lanes; an A rig and a B rig
+    -- another lane count; another kind with the same lanes, straight and with two mirrored lanes; kind A and kind B
     ∷ (presetsEqual 1 2 [] 1 3 [], verdict.No)
     ∷ (presetsEqual 1 4 [] 2 4 [], verdict.No)
     ∷ (presetsEqual 2 4 [] 3 4 [], verdict.Yes)

@@ -221,8 +221,8 @@ signs-exactly D w =
       λ p. not-true-false (odd (negatives w)) (λ t. p .1 refl (o .0 t)),
     )
 
--- W5: a list is a window of the rig exactly when it has as many entries as there are lanes, each size from 1 to the
--- lane count stands in one of them, in kind A none is negative, and in kind D no odd number of them is
+-- W5: a list is a window of a kind and rank exactly when it has as many entries as there are lanes, each size from 1
+-- to the lane count stands in one of them, in kind A none is negative, and in kind D no odd number of them is
 pub windows-exactly : (k : Kind) (n : ℕ) (w : List ℤ) → WindowOf k n w
     ↔ ((length w ≡ lanes k n)
     × ((s : ℕ) → 1 ≤ s → s ≤ lanes k n → (i : ℕ) × (i < length w) × (natAbs (getD w i (pos 0)) ≡ s))

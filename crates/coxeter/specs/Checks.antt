@@ -88,11 +88,11 @@ rankRefusal k n = check 5 (wrongKind k) then check 6 (wrongRank (kindOf k) n)
 unfoldable pub wordRefusal : ℕ → List ℕ → ℕ
 wordRefusal n u = check 7 (tooLong u) then check 8 (wrongLetter n u)
 
--- C9, C10, C11: of a window. Those that pass are the windows of the rig (W5).
+-- C9, C10, C11: of a window. Those that pass are the windows of the kind and rank (W5).
 unfoldable pub windowRefusal : Kind → ℕ → List ℤ → ℕ
 windowRefusal k n w = check 9 (wrongLanes k n w) then check 10 (wrongEntry k (lanes k n) w) then check 11 (oddNegatives k w)
 
--- C5, C6: n is a rank of kind k, and k a kind; document 01 calls the two a rig
+-- C5, C6: n is a rank of kind k, and k a kind
 abbrev pub RankOf : ℕ → ℕ → Type 0
 RankOf k n = rankRefusal k n ≡ 0
 
@@ -100,6 +100,6 @@ RankOf k n = rankRefusal k n ≡ 0
 abbrev pub WordOf : ℕ → List ℕ → Type 0
 WordOf n u = wordRefusal n u ≡ 0
 
--- W5: a window of the rig, which passes C9, C10 and C11
+-- W5: a window of kind k and rank n, which passes C9, C10 and C11
 abbrev pub WindowOf : Kind → ℕ → List ℤ → Type 0
 WindowOf k n w = windowRefusal k n w ≡ 0

@@ -63,7 +63,7 @@ total c = c .inversions + c .negativeSumPairs + c .negatives
 unfoldable pub windowLength : Kind → List ℤ → ℕ
 windowLength k w = total (crossings k w)
 
--- L6: the greatest length of a rig
+-- L6: the greatest length of a kind and rank
 abbrev pub greatestLength : Kind → ℕ → ℕ
 greatestLength A n = n * (n + 1) / 2
 greatestLength B n = n * n

@@ -1,6 +1,6 @@
--- The windows of a rig as a list (Y2 of the specification): of all lists with an entry for each lane those that
--- pass checks 9 to 11. That each window is in it, none twice and nothing else: `windows-exactly` and `windows-once`
--- of proofs/AllWindows.antt.
+-- The windows of a kind and rank as a list (Y2 of the specification): of all lists with an entry for each lane those
+-- that pass checks 9 to 11. That each window is in it, none twice and nothing else: `windows-exactly` and
+-- `windows-once` of proofs/AllWindows.antt.
 use mathlib.Core.Bool.{Bool}
 use mathlib.Core.List.{List, [], _∷_, _++_, map, List·Memᴰ}
 use Prim.Native.Nat.{ℕ, zero, suc}
@@ -37,6 +37,6 @@ lists (suc m) xs = consAll xs (lists m xs)
 unfoldable pub possibleEntries : ℕ → List ℤ
 possibleEntries m = map pos (up 1 m) ++ map negsuc (up 0 m)
 
--- W5, Y2: the windows of a rig
+-- W5, Y2: the windows of a kind and rank
 unfoldable pub windows : Kind → ℕ → List (List ℤ)
 windows k n = keep (λ w. eqb (windowRefusal k n w) 0) (lists (lanes k n) (possibleEntries (lanes k n)))

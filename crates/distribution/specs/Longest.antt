@@ -12,7 +12,7 @@ use Rattle.coxeter.specs.NormalForm.{down, normalForm}
 
 -- Y4: w is the one window of greatest length
 pub record IsLongest (k : Kind) (n : ℕ) (w : List ℤ) : Type 0 where
-  -- W5: it is a window of the rig
+  -- W5: it is a window of kind k and rank n
   pub passes : WindowOf k n w
   -- L6: it has the greatest length
   pub greatest : windowLength k w ≡ greatestLength k n

@@ -1,4 +1,5 @@
--- The rules of a rig are a complete normalized presentation of it: each field from the law of the files before.
+-- The rules of a kind and rank are a complete normalized presentation of its group: each field from the law of the
+-- files before.
 -- Assumes nothing.
 use Prim.Native.Nat.{ℕ, _≤_}
 use Rattle.coxeter.specs.Kinds.{Kind, least}

@@ -1,5 +1,5 @@
--- The rules of a rig are confluent: every word of steps reduces to the normal form of its window, which no rule reduces.
--- So they present what the relations present.
+-- The rules of a kind and rank are confluent: every word of steps reduces to the normal form of its window, which no
+-- rule reduces. So they present what the relations present.
 --
 -- Sections: reductions and rewritings; the normal form; what is presented.
 -- Assumes nothing.

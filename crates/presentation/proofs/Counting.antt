@@ -1,4 +1,4 @@
--- How many rules a rig has: the lengths of the families, added up over i from the last back.
+-- How many rules a kind and rank has: the lengths of the families, added up over i from the last back.
 --
 -- Sections: sums; the families; the list.
 -- Assumes nothing.

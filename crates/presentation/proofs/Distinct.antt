@@ -1,4 +1,4 @@
--- No rule stands twice in the list of a rig: two entries differ in their family, their i or their j.
+-- No rule stands twice in the list of a kind and rank: two entries differ in their family, their i or their j.
 --
 -- Sections: lists made of parts; the families; the list; left sides.
 -- Assumes nothing.

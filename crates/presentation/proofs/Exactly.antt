@@ -1,5 +1,5 @@
--- Which lists are the complete normalized presentations of a rig: exactly those that have the sides of its rules and as
--- many rules. So the order of a list and the numbers that its rules show play no part.
+-- Which lists are the complete normalized presentations of a group: exactly those that have the sides of the rules of
+-- its kind and rank, and as many rules. So the order of a list and the numbers that its rules show play no part.
 -- Assumes nothing.
 use mathlib.Core.Path.{_≡_, sym, ap, ap₂, subst, _∙_}
 use mathlib.Core.Bool.{true, false}
@@ -104,7 +104,8 @@ module _ (k : Kind) (n : ℕ) (low : least k ≤ n) (rs : List Rule) (same : (l 
     left-irreducible = left-irreducible;
   }
 
--- U10: the complete normalized presentations of a rig are exactly the lists with the sides of its rules and as many rules
+-- U10: the complete normalized presentations of a group are exactly the lists with the sides of the rules of its kind
+-- and rank, and as many rules
 pub presentation-exactly : (k : Kind) (n : ℕ) → least k ≤ n → (rs : List Rule) → CompletePresentation k n rs
     ↔ (((l r : List ℕ) → Pair rs l r ↔ Pair (rules k n) l r) × (length rs ≡ length (rules k n)))
 presentation-exactly k n low rs = (

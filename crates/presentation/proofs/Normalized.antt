@@ -1,6 +1,6 @@
--- The rules of a rig are normalized. No left side begins with a letter and then a lower one, and a left side without its
--- first letter is irreducible (traces/proofs/LeftSides); so no rule fits into a right side, and into a left side only at
--- its first place, where that is the rule itself.
+-- The rules of a kind and rank are normalized. No left side begins with a letter and then a lower one, and a left side
+-- without its first letter is irreducible (traces/proofs/LeftSides); so no rule fits into a right side, and into a left
+-- side only at its first place, where that is the rule itself.
 --
 -- Sections: where a left side begins; right sides; left sides.
 -- Assumes nothing.

@@ -1,4 +1,4 @@
--- There is one complete normalized presentation of a rig, Métivier's uniqueness: by any of them a word is irreducible
+-- There is one complete normalized presentation of a group, Métivier's uniqueness: by any of them a word is irreducible
 -- exactly if it is the normal form of its window, so that all have the same irreducible words; then each left side of
 -- one holds a left side of another, and that one a left side of the first, which can only be the same one.
 --
@@ -200,7 +200,7 @@ module _ (k : Kind) (n : ℕ) (low : least k ≤ n) (rs qs : List Rule) (c : Com
             (λ x m. let (y, q, e, f) = same-sides x m in Memᴰ·cast e (Memᴰ·map (λ (z : Rule). z .left) q)),
       )
 
--- U10: two complete normalized presentations of a rig have the same sides, and as many rules
+-- U10: two complete normalized presentations of a group have the same sides, and as many rules
 pub presentations-same : (k : Kind) (n : ℕ) → least k ≤ n → (rs qs : List Rule) → CompletePresentation k n rs → CompletePresentation k n qs
     → ((l r : List ℕ) → Pair rs l r ↔ Pair qs l r) × (length rs ≡ length qs)
 presentations-same k n low rs qs c d = (

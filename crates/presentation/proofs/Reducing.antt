@@ -2,7 +2,7 @@
 -- a chain of them keep.
 --
 -- Sections: one reduction; irreducible words; chains; the congruence; the order.
--- Not here: chains of the rules of a rig (Confluence).
+-- Not here: chains of the rules of a kind and rank (Confluence).
 -- Assumes nothing.
 use mathlib.Core.Path.{_≡_, refl, sym, ap, ap₂, subst, subst₂, _∙_}
 use mathlib.Core.Bool.{true, false, true≢false}

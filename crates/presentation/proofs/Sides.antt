@@ -1,5 +1,5 @@
--- The sides of a rule of a rig: both are made of steps, and the right side comes before the left one in the order by
--- length and dictionary.
+-- The sides of a rule of a kind and rank: both are made of steps, and the right side comes before the left one in the
+-- order by length and dictionary.
 -- Assumes nothing.
 use mathlib.Core.Path.{_≡_, sym, ap, subst, subst₂, _∙_}
 use mathlib.Core.Bool.{true, false}

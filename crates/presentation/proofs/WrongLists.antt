@@ -1,7 +1,7 @@
 -- Lists of rules that are no complete normalized presentation: the mistakes that are close at hand when such a list is
 -- written down, each ruled out by the definition of such a presentation or by the theorem that there is only one.
 --
--- Sections: too few and too many; a rule that does not belong there; lists of small rigs.
+-- Sections: too few and too many; a rule that does not belong there; lists of small ranks.
 -- Assumes nothing.
 use mathlib.Core.Path.{_≡_, refl, sym, ap, _∙_}
 use mathlib.Core.Bool.{true, true≢false}
@@ -31,13 +31,13 @@ module _ (k : Kind) (n : ℕ) (low : least k ≤ n) where
   as-many : (rs : List Rule) → CompletePresentation k n rs → length rs ≡ length (rules k n)
   as-many rs c = rules-present k n low .only rs .0 c .1
 
-  -- U10: the rules of a rig without one of them are no complete normalized presentation
+  -- U10: the rules of a kind and rank without one of them are no complete normalized presentation
   pub rule-left-out : (front : List Rule) (x : Rule) (rest : List Rule) → rules k n ≡ front ++ (x ∷ rest)
       → CompletePresentation k n (front ++ rest) → ⊥
   rule-left-out front x rest e c =
       omega (arith, as-many (front ++ rest) c, ap length e, length-append front rest, length-append front (x ∷ rest))
 
-  -- U6, U10: the rules of a rig with one more, new or already there, are no complete normalized presentation
+  -- U6, U10: the rules of a kind and rank with one more, new or already there, are no complete normalized presentation
   pub rule-added : (front : List Rule) (x : Rule) (rest : List Rule) → rules k n ≡ front ++ rest
       → CompletePresentation k n (front ++ (x ∷ rest)) → ⊥
   rule-added front x rest e c =
@@ -65,14 +65,14 @@ module _ (k : Kind) (n : ℕ) (low : least k ≤ n) where
     pub sides-alike : window k n (x .left) ≡ window k n (x .right)
     sides-alike = congruent-window k n (c .presenting (x .left) (x .right) .0 (congruent-one (pair x m)))
 
-    -- U10: if a rule of a complete normalized presentation has the left side of a rule of the rig, it has its right side
-    -- too
+    -- U10: if a rule of a complete normalized presentation has the left side of a rule of the kind and rank, it
+    -- has its right side too
     pub right-side-given : (y : Rule) → List·Memᴰ y (rules k n) → y .left ≡ x .left → y .right ≡ x .right
     right-side-given y q e =
         let (z, p, l, r) = no-other-rule rules-present k n low rs c x m in
         ap (λ (w : Rule). w .right) (left-determines k n y z low q p (e ∙ sym l)) ∙ r
 
--- ---- lists of small rigs
+-- ---- lists of small ranks
 
 -- U4, Q9: no complete normalized presentation of D₄ has the rule 2 4 → 4 2, which is kind B's
 pub pair-of-B-in-D : (rs : List Rule) (x : Rule) → List·Memᴰ x rs → x .left ≡ 2 ∷ 4 ∷ [] → x .right ≡ 4 ∷ 2 ∷ []

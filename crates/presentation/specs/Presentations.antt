@@ -18,7 +18,7 @@ use Rattle.distribution.specs.AllWindows.{In, Once}
 use Rattle.distribution.specs.Distribution.{order}
 use Rattle.presentation.specs.Reductions.{Pair, Reduces, Reductions, ReducesTo}
 
--- U2 to U6: the list is a complete normalized presentation of the rig, for the order by length and dictionary
+-- U2 to U6: the list is a complete normalized presentation of the group, for the order by length and dictionary
 pub record CompletePresentation (k : Kind) (n : ℕ) (rs : List Rule) : Type 0 where
   -- U5, K6: the letters of both sides are steps
   pub steps : (x : Rule) → List·Memᴰ x rs → (wrongLetter n (x .left) ≡ false) × (wrongLetter n (x .right) ≡ false)
@@ -38,7 +38,7 @@ pub record CompletePresentation (k : Kind) (n : ℕ) (rs : List Rule) : Type 0 w
   -- U6: none of the other entries of the list fits into a left side, so that no rule stands twice either
   pub left-irreducible : (front : List Rule) (x : Rule) (rest : List Rule) → rs ≡ front ++ (x ∷ rest) → Irreducible (front ++ rest) (x .left)
 
--- U8: the irreducible words of a rig as a list
+-- U8: the irreducible words of a kind and rank as a list
 pub record IrreducibleWords (k : Kind) (n : ℕ) : Type 0 where
   pub words : List (List ℕ)
   -- U8: none twice

@@ -88,8 +88,8 @@ begins (a ∷ u) (b ∷ v) = eqb a b && begins u v
 unfoldable pub fits : Rule → List ℕ → ℕ → Bool
 fits r u p = begins (r .left) (drop p u)
 
--- R16: the first rule of a list that fits at place p. Of a rig's rules at most one does (R15), so their order plays
--- no part.
+-- R16: the first rule of a list that fits at place p. Of the rules of a kind and rank at most one does (R15),
+-- so their order plays no part.
 unfoldable pub firstFitting : List Rule → List ℕ → ℕ → Option Rule
 firstFitting [] u p = none
 firstFitting (r ∷ rs) u p = pick (fits r u p) (some r) (firstFitting rs u p)
