@@ -78,7 +78,7 @@ firstOf-named c ((r, false) ∷ fs) h e = firstOf-named c fs (or-false-right (eq
 -- ---- checks one after another
 
 -- Each law takes an equation s ≡ t about the checks that follow, so that a list of several groups is made by nesting
--- them, as in `rank-then k n (word-then n u refl)`. Where several groups are followed as one, `rw then-assoc` or
+-- them, as in `rank-then k n (word-then n u refl)`. If several groups are followed as one, `rw then-assoc` or
 -- `simp then-assoc` goes first. On the right stands `firstOf` of the list, written out.
 
 -- one check; the number is not 0

@@ -1,6 +1,6 @@
--- How a call ends that writes, and what its answer says. Where a length is answered no check refused, and the bytes
--- answered stand at the front of the output; where not, the output is as it was lent. By the refusal before check
--- 14 and the room of the output.
+-- How a call ends that writes, and what its answer says. If a length is answered, no check refused, and the bytes
+-- answered stand at the front of the output; if not, the output is as it was lent. By the refusal before check 14
+-- and the room of the output.
 --
 -- Sections: how a call ends; from the answer; from the refusal.
 -- Assumes nothing.

@@ -1,4 +1,4 @@
--- A letter put into a normal form. Where a letter is added at the end of a normal form and rules carry it to the
+-- A letter put into a normal form. If a letter is added at the end of a normal form and rules carry it to the
 -- left, what stands in the end, with the letter at the place where no rule carries it on, or with it and an equal
 -- letter deleted, is a normal form again. By the exchange property: an earlier word with the same window would
 -- have, from the first difference on, a first letter that could be deleted at the other end.

@@ -1,6 +1,6 @@
 -- Reading a word letter by letter, rewriting at the lowest place. What has been read is a normal form and one
 -- letter that rules carry to the left: the rule that ends with that letter is at the lowest place of the whole
--- word, and after it the letter stands at that place, or is gone with an equal one. Where no rule ends with it,
+-- word, and after it the letter stands at that place, or is gone with an equal one. If no rule ends with it,
 -- what has been read is a normal form (Inserting), and the next letter is read. So each letter takes at most as
 -- many steps as letters stand before it, and no rewriting has more steps than the word has pairs of letters.
 --

@@ -17,7 +17,7 @@ ghost use Rattle.coxeter.proofs.Acceptance.{Ranked};
 ghost use Rattle.coxeter.proofs.PeelingByPlaces.{placeOf, PlacesOf, Place, lastLevel, withoutPosition, signChanged};
 ghost use Rattle.coxeter.proofs.PeelingByPlaces.{indexAt, leftAt, oddAt, peeledWord};
 
-// The letters from a up to b, written from the place `at` on; the answer is the place after them.
+// Writes the letters from a up to b from the place `at` on and returns the place after them.
 fn write_up(out: &mut [u8], at: usize, a: usize, b: usize) -> usize
     requires { ⌜ (b < 256) × (at + length (rise a b) ≤ length (now out)) ⌝ }
     ensures { λ r. ⌜ (r ≡ at + length (rise a b)) × (now (out .exit) ≡ sets (now (out .entry)) at (rise a b)) ⌝ }
@@ -32,8 +32,8 @@ fn write_up(out: &mut [u8], at: usize, a: usize, b: usize) -> usize
     r
 }
 
-// The letters from b down to a, written from the place `at` on; the answer is the place after them. The letters are
-// counted in a byte, so that many are made at a time.
+// Writes the letters from b down to a from the place `at` on and returns the place after them. The letters are counted
+// in a byte, so that many are made at a time.
 fn write_down(out: &mut [u8], at: usize, b: usize, a: usize) -> usize
     requires { ⌜ (b < 255) × (a < 256) × (at + length (fall b a) ≤ length (now out)) ⌝ }
     ensures { λ r. ⌜ (r ≡ at + length (fall b a)) × (now (out .exit) ≡ sets (now (out .entry)) at (fall b a)) ⌝ }
@@ -85,7 +85,7 @@ fn write_turned(kind: u8, n: usize, i: usize, j: usize, out: &mut [u8], at: usiz
     write_down(out, next, turn.high, 2 * n - j)
 }
 
-// N4 to N8: the block [i,j], written from the place `at` on; the answer is the place after it. Before the turn it goes
+// N4 to N8: writes the block [i,j] from the place `at` on and returns the place after it. Before the turn the block goes
 // up only. The windows have m entries: in B and D that is the rank, and in A every j is below it.
 fn write_block(kind: u8, m: usize, i: usize, j: usize, out: &mut [u8], at: usize) -> usize
     requires { ⌜ Ranked (kindOf kind) m × (j ≤ 2 * m) × (kind ≡ 1 → j < m) ⌝ }
@@ -212,9 +212,9 @@ fn last_level(kind: u8, m: usize) -> usize
 }
 
 // The levels from i on, written to the front of `out`: the block of level i is peeled off, the rest is a normal form
-// of the levels above, and the block is written behind it. The answer is how many letters there are. `left` is the set
-// of the positions left, and `odd` says whether an odd number of negative entries were taken out. The number of levels
-// left falls at each call.
+// of the levels above, and the block is written behind it. Returns how many letters there are. `left` is the set of
+// the positions left, and `odd` says whether an odd number of negative entries were taken out. The number of levels left
+// falls at each call.
 fn peel(
     kind: u8,
     m: usize,
@@ -246,7 +246,7 @@ fn all_positions(m: usize) -> u64
     18446744073709551615u64 >> (64 - m)
 }
 
-// The normal form of an accepted window, written to the front of `out`; the answer is its length.
+// Writes the normal form of an accepted window to the front of `out` and returns its length.
 pub(crate) fn write_normal_form(kind: u8, rank: u8, w: &[i8], out: &mut [u8]) -> usize
     requires { ⌜ RankOf kind rank ⌝ }
     requires { ⌜ WindowOf (kindOf kind) rank (now w) ⌝ }

@@ -1,5 +1,5 @@
 -- What `carrying::turn` and `carrying::insert` do: the rule that the search hands on is the step of the rewriting,
--- which is noted and made. Where there is none, or an equal letter is deleted, what stands is a normal form.
+-- which is noted and made. If there is none, or an equal letter is deleted, what stands is a normal form.
 --
 -- Sections: the rule that was found; no rule; a letter deleted; a letter carried on; turn after turn.
 -- Assumes nothing.

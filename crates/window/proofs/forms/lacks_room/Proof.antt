@@ -1,4 +1,4 @@
--- `forms::lacks_room` compares the room with n × n, and where that is more with the length.
+-- `forms::lacks_room` compares the room with n × n and, if that is more, with the length.
 -- Assumes nothing.
 use mathlib.Core.Path.{refl, ap}
 use native.Mathlib.Omega.{arith}
