@@ -92,7 +92,7 @@ wordRefusal n u = check 7 (tooLong u) then check 8 (wrongLetter n u)
 unfoldable pub windowRefusal : Kind → ℕ → List ℤ → ℕ
 windowRefusal k n w = check 9 (wrongLanes k n w) then check 10 (wrongEntry k (lanes k n) w) then check 11 (oddNegatives k w)
 
--- C5, C6: n is a rank of kind k, and k a kind
+-- C5, C6: n is a rank of kind k, and k a kind; document 01 calls the two a rig
 abbrev pub RankOf : ℕ → ℕ → Type 0
 RankOf k n = rankRefusal k n ≡ 0
 
