@@ -191,7 +191,7 @@ same_sizes_pair x y x' y' w p q =
       between = λ i c b. rw (p, q) (b.2.0, b.2.1, (b.0, b.1, b.2.2));
       distinct = λ d.
           rw (p, q, apart d)
-          (d.1.0, (has_size-tail (nat_abs x) y w d.0, d.1.1));
+          (ap (λ s. has_size s w) q ∙ d.1.0, (has_size-tail (nat_abs x) y w d.0, d.1.1));
     }
   where
     apart : Distinct (x ∷ y ∷ w) → eqb (nat_abs x) (nat_abs y) ≡ false

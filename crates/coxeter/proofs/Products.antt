@@ -11,8 +11,7 @@ use native.Mathlib.Nat.{add-zero}
 use native.Mathlib.Omega.{arith}
 use lib.Dec.{eqb}
 use lib.IntN.{ℤ, pos, negsuc, neg_ℤ, nat_abs, neg_ℤ-neg_ℤ}
-use lib.ListN
-use lib.ListN.{length, get_or, length-map}
+use lib.ListN.{length, get_or, length-map, get_or-map}
 use lib.Seq.{ext_get_or}
 use Rattle.coxeter.specs.Kinds.{Kind, A, B, D, lanes, up}
 use Rattle.coxeter.specs.Windows.{from, swap, negate_first, swap_negate, act, window_from, identity, window, at, product}
@@ -40,7 +39,7 @@ map-up f g i (suc k) h = ap₂ ◌∷◌ (h i (omega arith) (omega arith)) (map-
 
 pub get_or-identity : (m p : ℕ) → p < m → get_or (identity m) p (pos 0) ≡ pos (suc p)
 unfolding identity
-get_or-identity m p h = ListN.get_d_map pos (up 1 m) p 0 ∙ ap pos (get_or-up 1 m p 0 h ∙ omega arith)
+get_or-identity m p h = get_or-map pos (up 1 m) p 0 ∙ ap pos (get_or-up 1 m p 0 h ∙ omega arith)
 
 pub length-product : (u v : List ℤ) → length (product u v) ≡ length v
 unfolding product
@@ -48,7 +47,7 @@ length-product u v = length-map v (at u)
 
 pub get_or-product : (u v : List ℤ) (p : ℕ) → get_or (product u v) p (pos 0) ≡ at u (get_or v p (pos 0))
 unfolding product at
-get_or-product u v p = ListN.get_d_map (at u) v p (pos 0)
+get_or-product u v p = get_or-map (at u) v p (pos 0)
 
 -- ---- composing
 

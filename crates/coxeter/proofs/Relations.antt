@@ -114,10 +114,13 @@ apart_acts D n p q l (inr (inr h)) w =
 braid_acts : (k : Kind) (n : ℕ) {l r : List ℕ} → Braid k n l r → (w : List ℤ) → length w ≡ lanes k n
     → window_from k n w l ≡ window_from k n w r
 unfolding window_from
+braid_acts k n (threefold {a = zero} {b = b} o l h) w e = elim o [ ]
 braid_acts k n (threefold {a = suc p} {b = zero} o l h) w e = absurd (omega (arith, neighbours_lt k n (suc p) 0 h))
 braid_acts k n (threefold {a = suc p} {b = suc q} o l h) w e = threefold_acts k n p q l h w e
+braid_acts k n (fourfold {a = zero} {b = b} o l h) w e = elim o [ ]
 braid_acts k n (fourfold {a = suc p} {b = zero} o l h) w e = absurd (omega (arith, fourfold_pair_lt k n (suc p) 0 h))
 braid_acts k n (fourfold {a = suc p} {b = suc q} o l h) w e = fourfold_acts k n p q h w e
+braid_acts k n (commute {a = zero} {b = b} o l h) w e = elim o [ ]
 braid_acts k n (commute {a = suc p} {b = zero} o l h) w e = absurd (omega (arith, h.0))
 braid_acts k n (commute {a = suc p} {b = suc q} o l h) w e = apart_acts k n p q l (commuting_apart k n (suc p) (suc q) l h) w
 

@@ -92,9 +92,9 @@ module _ (k n : ℕ) (w before after : List ℤ) (l : ℕ) (left : Yields (inver
   inverse_of_window-lanes = sym inverse_of_window_wrote.1 ∙ (accepted_of_refusal (kind_of k) n (take l after) inverse_of_window_passes).size
 
   -- the product with what was written is straight, both ways round
-  pub inverseOfWindow-cancels :
+  pub inverse_of_window_cancels :
       (product w (take l after) ≡ identity (lanes (kind_of k) n)) × (product (take l after) w ≡ identity (lanes (kind_of k) n))
-  inverseOfWindow-cancels =
+  inverse_of_window_cancels =
       let a = inverse_of_window_accepted.1 in
       rw inverse_of_window_wrote.0 (product-inverse (kind_of k) n w a, inverse-product (kind_of k) n w a)
 
