@@ -4,11 +4,7 @@ use mathlib.Core.Path.{◌∙◌, ap}
 use lib.IntN.{ℤ, pos}
 use lib.Signed.{lt_z}
 use Rattle.refusals.proofs.Bytes.{byte_back, negative_is_test}
-use Rattle.refusals.proofs.entries.is_negative.Statement.{statement}
-use Rattle.refusals.proofs.entries.is_negative.Tie as tie
+use Rattle.refusals.proofs.entries.is_negative.Goals as goal
 
-returns : tie.Need-returns
+pub returns : goal.returns
 returns c = ap (λ (z : ℤ). lt_z z (pos 0)) (byte_back _ c.ranges.e) ∙ negative_is_test c.args.e
-
-pub is-negative-spec : {M : Type 1} → statement M
-is-negative-spec = tie.close (tie.spec returns)

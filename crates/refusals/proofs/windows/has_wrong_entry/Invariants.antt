@@ -1,0 +1,12 @@
+-- `windows::has_wrong_entry` goes from the last entry to the first. The invariant: the entries behind passed, and
+-- their sizes are marked.
+-- Assumes nothing.
+use Rattle.coxeter.specs.Kinds.{kind_of}
+use Rattle.refusals.proofs.windows.Marks.{MarkedFrom}
+use Rattle.refusals.proofs.windows.has_wrong_entry.Given as goal
+
+abbrev pub invariant-loop-i : goal.invariant-loop-i
+invariant-loop-i l = MarkedFrom (kind_of l.kind) l.m l.w l.marks l.i
+
+abbrev pub decreases-loop-i : goal.decreases-loop-i
+decreases-loop-i l = l.i
