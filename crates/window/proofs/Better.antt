@@ -6,7 +6,7 @@ use mathlib.Core.List.{List}
 use Prim.Native.Nat.{ℕ}
 use native.Mathlib.Nat.{zero-add}
 use denote.Ref.{Bor}
-use borrow.Rule.Slice.PartAt.{sl_part}
+use borrow.Rule.Slice.PartAt.{sl_partˢ}
 use borrow.Rule.Slice.Shared.{by_byte}
 use Rattle.coxeter.specs.declared.Choice.TheVariants as choices
 use Rattle.coxeter.specs.Calls.{choice, Better}
@@ -27,9 +27,9 @@ unfolding choice
 choice_first {second = second} e s = rw (e, s)
 
 -- the empty part at the start of the first word
-pub better-part : {hands second : Bool} {u v : Bor (List ℕ)} (γ : ℕ) → choice hands second ≡ choices.Neither
-    → Better hands second u v (sl_part u (by_byte 0 u.ref_ptr.1) 0 0 γ)
-better-part {hands} {second} {u} γ e =
+pub better-part : {hands second : Bool} {u v : Bor (List ℕ)} → choice hands second ≡ choices.Neither
+    → Better hands second u v (sl_partˢ u (by_byte 0 u.ref_ptr.1) 0 0)
+better-part {hands} {second} {u} e =
     let f = (choice_exactly hands second).0.0 e in
     record { whole = λ h. absurd (false≢true (sym f ∙ h)); empty = λ h. (refl, ap (λ (o : ℕ). (u.ref_ptr.0, o)) (zero-add u.ref_ptr.1)) }
 
