@@ -66,7 +66,7 @@ extended_word {k} {n} {i} {j} [] b s t = inl (j, b.at_least, b.at_most, append-n
 extended_word {k} {n} {i} {j} (x ∷ u) b s t =
     rw (← append_assoc (block k n i j) (x ∷ []) u)
     (elim (extended_letter b s t.0 t.1) [
-      | inl r ↦ let c : IsBlock k n i r.0 = omega arith in rw r.3 (extended_word u c (inl r.1) t.2)
+      | inl r ↦ let c : IsBlock k n i r.0 = omega arith in rw r.3 (extended_word {j = r.0} u c (inl r.1) t.2)
       | inr r ↦ inr (reducible_within [] u r)
     ])
 

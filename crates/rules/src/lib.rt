@@ -1,4 +1,5 @@
 // The rules, one rewrite and demand 3: definitions in specs/, laws in proofs/, and the answer of the call. No function.
+#![tactic(auto)]
 
 // I19, G14: the rule used with the new word's length, or that none fits, or the refusal.
 #[derive(Drop)]
