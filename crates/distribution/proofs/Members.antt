@@ -18,6 +18,7 @@ use Rattle.distribution.specs.AllWindows.{In, Once, keep, cons_all, lists}
 
 -- the list without this place
 dropped : {X : Type 0} {x : X} {l : List X} → In x l → List X
+dropped {l = []} m = elim m [ ]
 dropped {l = y ∷ l} (Memᴰ.head e) = l
 dropped {l = y ∷ l} (Memᴰ.tail m) = y ∷ dropped m
 
@@ -53,6 +54,7 @@ keep_no t x l e = rw e
 
 pub in_keep : {X : Type 0} (t : X → Bool) (x : X) (l : List X) → t x ≡ true → In x l → In x (keep t l)
 unfolding keep
+in_keep t x [] h m = elim m [ ]
 in_keep t x (y ∷ l) h (Memᴰ.head e) = rw (ap t (sym e) ∙ h) (Memᴰ.head e)
 in_keep t x (y ∷ l) h (Memᴰ.tail m) = in_keep_by_cases (t y) (in_keep t x l h m)
   where
@@ -112,6 +114,7 @@ once_append (x ∷ a) b p q h = (
 
 pub in_cons_all : {X : Type 0} (x : X) (l : List X) (xs : List X) (ls : List (List X)) → In x xs → In l ls → In (x ∷ l) (cons_all xs ls)
 unfolding cons_all
+in_cons_all x l [] ls i m = elim i [ ]
 in_cons_all x l (y ∷ xs) ls (Memᴰ.head e) m = Memᴰ.append_left (cons_all xs ls) (Memᴰ.cast (ap (λ z. z ∷ l) e) (Memᴰ.map (λ w. y ∷ w) m))
 in_cons_all x l (y ∷ xs) ls (Memᴰ.tail i) m = Memᴰ.append_right (map (λ w. y ∷ w) ls) (in_cons_all x l xs ls i m)
 

@@ -1,5 +1,6 @@
 // The windows of a kind and a rank by their lengths: definitions in specs/, laws in proofs/, the answer of the delay
 // table, and the two ways in which its numbers are combined. No function.
+#![tactic(auto)]
 
 // I24: how many numbers, entries and letters of a delay table were written, or the refusal.
 #[derive(Drop)]
