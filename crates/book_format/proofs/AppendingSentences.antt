@@ -15,7 +15,7 @@ use Rattle.coxeter.specs.declared.Answer.TheVariants.{Length, Refused}
 use Rattle.coxeter.specs.Kinds.{kind_of, lanes}
 use Rattle.coxeter.specs.Checks.{first_of, check, ◌then◌, wrong_kind, too_long, wrong_letter, too_short, word_refusal, WordOf}
 use Rattle.coxeter.specs.Calls.{Yields, writes}
-use Rattle.coxeter.proofs.Refusals.{then_some, check_zero}
+use Rattle.coxeter.proofs.Refusals.{then_zero, then_some, check_zero}
 use Rattle.coxeter.proofs.Writes.{length_or_refused}
 use Rattle.coxeter.proofs.AnswersExactly.{answer_of_exactly}
 use Rattle.book_format.specs.declared.Edition.{Edition}

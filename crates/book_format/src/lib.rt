@@ -1,5 +1,6 @@
 // The preset book: definitions in specs/, laws in proofs/, the editions of a book, and the answers of the calls on
 // it. No function.
+#![tactic(auto)]
 
 // B8: the edition of a book; there is no third.
 #[derive(Drop)]
