@@ -48,6 +48,7 @@ module _ (allowed : ℕ → Bool) where
 
   -- by letters
   letter_allowed : (a : ℕ) (u : List ℕ) → Over allowed u → Memᴰ a u → allowed a ≡ true
+  letter_allowed a [] e m = elim m [ ]
   letter_allowed a (s ∷ u) e (Memᴰ.head q) = rw q (over-head s u e)
   letter_allowed a (s ∷ u) e (Memᴰ.tail m) = letter_allowed a u (over-tail s u e) m
 

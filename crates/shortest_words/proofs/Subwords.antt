@@ -44,8 +44,8 @@ pub data Split (u x : List ℕ) : List ℕ → Type 0 where
 
 pub subword_split : (u : List ℕ) {x v : List ℕ} → Subword (u ++ x) v → Split u x v
 subword_split [] p = both none p
-subword_split (a ∷ u) (keep p) = elim (subword_split u p) [ both q r ↦ both (keep q) r ]
-subword_split (a ∷ u) (leave p) = elim (subword_split u p) [ both q r ↦ both (leave q) r ]
+subword_split (a ∷ u) {x} (keep p) = elim (subword_split u p) as (λ k _. Split (a ∷ u) x (a ∷ k)) [ both q r ↦ both (keep q) r ]
+subword_split (a ∷ u) {x} (leave p) = elim (subword_split u p) as (λ k _. Split (a ∷ u) x k) [ both q r ↦ both (leave q) r ]
 
 pub subword_length : {u v : List ℕ} → Subword u v → length v ≤ length u
 subword_length none = omega arith

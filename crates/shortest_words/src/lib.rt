@@ -1,5 +1,6 @@
 // Shortest words and what steps do to them: definitions in specs/, laws in proofs/, and the answers of the calls on
 // them. No function.
+#![tactic(auto)]
 
 // I18: how many places are kept, or no, or the refusal.
 #[derive(Drop)]
