@@ -21,7 +21,6 @@ use Rattle.coxeter.specs.Checks.{wrong_letter}
 use Rattle.coxeter.proofs.LetterLaws.{letter_within_cons}
 use Rattle.coxeter.proofs.Levels.{window_accepted}
 use Rattle.coxeter.proofs.Relations.{letters-append, wrong_letter_cons}
-use Rattle.coxeter.proofs.Order.{same}
 use Rattle.coxeter.proofs.Descents.{crossed, length_of_crossed, length_of_uncrossed}
 use Rattle.shortest_words.specs.OneLetter.{drop_at, Removable, added}
 use Rattle.shortest_words.proofs.Subwords.{length-drop_at, subword_of_drop_at, subword_letters}

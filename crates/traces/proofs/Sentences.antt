@@ -102,7 +102,7 @@ seen {k} {n} {u} (l ∷ ls) {v} r {cs = (c ∷ cs)} m e o =
     let places : called_at cs ≡ places_of ls = cc in
     let rooms : (i : ℕ) → i < length ls → get_or (lengths_of ls) i 0 ≤ length (get_or (lent_to cs) i []) = λ i h. o (suc i) (omega arith) in
     seen_next k n u l ls v r c cs m.0 e room
-    (seen ls (replays_next k n u l ls v r c cs m.0 e room) m.1 places rooms)
+    (seen {u = word_after single u c.result} ls (replays_next k n u l ls v r c cs m.0 e room) m.1 places rooms)
 
 -- ---- a rewriting that ended
 
