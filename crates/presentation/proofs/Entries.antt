@@ -9,6 +9,7 @@ use Rattle.distribution.specs.AllWindows.{In, Once}
 module _ {X : Type 0} where
   -- what is in a list is one of its entries
   pub entry_of : {x : X} {l : List X} → In x l → (front rest : List X) × (l ≡ front ++ (x ∷ rest))
+  entry_of {l = []} m = elim m [ ]
   entry_of {l = y ∷ l} (Memᴰ.head e) = ([], l, ap (λ (z : X). z ∷ l) (sym e))
   entry_of {l = y ∷ l} (Memᴰ.tail m) = let (front, rest, e) = entry_of m in (y ∷ front, rest, ap (λ (t : List X). y ∷ t) e)
 

@@ -1,2 +1,3 @@
 // The rules as a complete normalized presentation (section U of the specification): definitions in specs/, laws in
 // proofs/. No function.
+#![tactic(auto)]
