@@ -7,7 +7,7 @@ ghost use Rattle.book_format.specs.Calls.{checked_book, checked_preset, letters_
 use crate::reading::{check_book, check_preset, letters};
 use book_format::{Edition, Opened, Preset};
 
-#[derive(Drop)]
+#[derive(Clone, Copy)]
 pub struct Reader<'a> {
     pub bytes: &'a [u8],
     pub edition: Edition,

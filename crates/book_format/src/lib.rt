@@ -3,14 +3,14 @@
 #![tactic(auto)]
 
 // B8: the edition of a book; there is no third.
-#[derive(Drop)]
+#[derive(Clone, Copy)]
 pub enum Edition {
     First,
     Second,
 }
 
 // I25: the number of presets of a book, or the refusal.
-#[derive(Drop)]
+#[derive(Clone, Copy)]
 pub enum Opened {
     Presets(usize),
     Refused(u8),
@@ -18,7 +18,7 @@ pub enum Opened {
 
 // I26: the kind and the rank of a preset, where its letters begin in the book and how many they are, or the
 // refusal.
-#[derive(Drop)]
+#[derive(Clone, Copy)]
 pub enum Preset {
     Found {
         kind: u8,
@@ -30,13 +30,13 @@ pub enum Preset {
 }
 
 // I35: a preset as an element of a run.
-#[derive(Drop)]
+#[derive(Clone, Copy)]
 pub struct Slot {
     pub preset: Preset,
 }
 
 // I35: 128 presets from the number `first` on, with what opening their book returned.
-#[derive(Drop)]
+#[derive(Clone, Copy)]
 pub struct Run {
     pub opened: Opened,
     pub first: usize,

@@ -2,21 +2,21 @@
 // answers of the calls on them. No function.
 
 // I1: the answer of a call that writes, or that measures a length: the length, or the refusal.
-#[derive(Drop)]
+#[derive(Clone, Copy)]
 pub enum Answer {
     Length(usize),
     Refused(u8),
 }
 
 // K3, I33: how many lanes a kind and a rank have, or the refusal.
-#[derive(Drop)]
+#[derive(Clone, Copy)]
 pub enum Lanes {
     Count(usize),
     Refused(u8),
 }
 
 // V1: an equality verdict, or the refusal.
-#[derive(Drop)]
+#[derive(Clone, Copy)]
 pub enum Verdict {
     Yes,
     No,
@@ -24,7 +24,7 @@ pub enum Verdict {
 }
 
 // I17: which of two words is the better one.
-#[derive(Drop)]
+#[derive(Clone, Copy)]
 pub enum Choice {
     First,
     Second,
@@ -32,7 +32,7 @@ pub enum Choice {
 }
 
 // L2, L3, L4: a length as its three counts, or the refusal.
-#[derive(Drop)]
+#[derive(Clone, Copy)]
 pub enum Counted {
     Crossings {
         inversions: usize,

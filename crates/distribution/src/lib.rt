@@ -3,7 +3,7 @@
 #![tactic(auto)]
 
 // I24: how many numbers, entries and letters of a delay table were written, or the refusal.
-#[derive(Drop)]
+#[derive(Clone, Copy)]
 pub enum Table {
     Written {
         counts: usize,
@@ -14,7 +14,7 @@ pub enum Table {
 }
 
 // One number less another, or both together: how a factor of the distribution combines a number with one before it.
-#[derive(Drop)]
+#[derive(Clone, Copy)]
 pub enum Combination {
     Difference,
     Sum,

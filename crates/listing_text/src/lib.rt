@@ -3,7 +3,7 @@
 #![tactic(auto)]
 
 // I32: the line after a piece of a listing, how many bytes the piece has, and how many lines are still to come.
-#[derive(Drop)]
+#[derive(Clone, Copy)]
 pub struct Piece {
     pub next: usize,
     pub end: usize,

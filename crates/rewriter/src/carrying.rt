@@ -12,7 +12,7 @@ use crate::ending::{Ending, ending_rule};
 use crate::search::levels_of;
 
 // How many steps were made, and how many letters the word has then.
-#[derive(Drop)]
+#[derive(Clone, Copy)]
 pub(crate) struct Count {
     pub(crate) steps: usize,
     pub(crate) size: usize,
@@ -174,7 +174,7 @@ fn delete(word: &mut [u8], place: usize)
 
 // How many steps were made, how many letters the word has then, and where the letter stands that moves: 0 if it
 // moves no further.
-#[derive(Drop)]
+#[derive(Clone, Copy)]
 struct Moved {
     steps: usize,
     size: usize,

@@ -17,7 +17,7 @@ use crate::search::{family_at, fork_of, last_index_of, levels_of, next_index, sh
 use crate::writing::first_letter;
 
 // A rule that ends there: its family, where it begins and the letter that its right side puts first.
-#[derive(Drop)]
+#[derive(Clone, Copy)]
 pub(crate) enum Ending {
     Rule { family: u8, place: usize, first: u8 },
     Nothing,

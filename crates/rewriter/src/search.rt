@@ -11,7 +11,7 @@ ghost use Rattle.rules.proofs.Scan as scan;
 ghost use Rattle.rules.proofs.Scan.{next_index, family_at_end, family_at, shown_index};
 
 // A rule that fits, as a rewrite returns it, with the length of its left side.
-#[derive(Drop)]
+#[derive(Clone, Copy)]
 pub(crate) enum Fitting {
     Rule {
         family: u8,

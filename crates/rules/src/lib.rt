@@ -2,7 +2,7 @@
 #![tactic(auto)]
 
 // I19, G14: the rule used with the new word's length, or that none fits, or the refusal.
-#[derive(Drop)]
+#[derive(Clone, Copy)]
 pub enum Rewrite {
     Used {
         family: u8,

@@ -3,7 +3,7 @@
 #![tactic(auto)]
 
 // I18: how many places are kept, or no, or the refusal.
-#[derive(Drop)]
+#[derive(Clone, Copy)]
 pub enum Fallback {
     Kept(usize),
     No,
@@ -11,7 +11,7 @@ pub enum Fallback {
 }
 
 // I22: the lengths of the two words of a split, or the refusal.
-#[derive(Drop)]
+#[derive(Clone, Copy)]
 pub enum Split {
     Words { first: usize, second: usize },
     Refused(u8),

@@ -6,7 +6,7 @@ use std::num::{wrapping_add_u8, wrapping_sub_u8};
 // W last -> first W, or W last -> empty if `first` is 0, where W goes up from i, `up` steps, and then down from
 // `turn`, `down` steps. If `digits` is not 0, the rule is one of CP(4) at rank n instead, in the paper's
 // generators: eight hexadecimal digits a side, with zeros behind it.
-#[derive(Drop)]
+#[derive(Clone, Copy)]
 pub(crate) struct Rule {
     i: u8,
     up: u8,

@@ -8,7 +8,7 @@ use book::reader::{open, preset, preset_letters, presets};
 use book::{Edition, Opened, Preset};
 use std::num::wrapping_add_u64;
 
-#[derive(Drop)]
+#[derive(Clone, Copy)]
 struct Answers {
     count: Opened,
     first: Preset,

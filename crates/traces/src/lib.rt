@@ -3,7 +3,7 @@
 #![tactic(auto)]
 
 // T22: the number of steps with the final word's length, or the refusal.
-#[derive(Drop)]
+#[derive(Clone, Copy)]
 pub enum ToEnd {
     Ended { steps: usize, length: usize },
     Refused(u8),

@@ -11,7 +11,7 @@ use coxeter::Counted;
 use refusals::{is_negative, size};
 
 // What a length is made of: the pairs of both sorts, the negative sum pairs among them, and the negative entries.
-#[derive(Drop)]
+#[derive(Clone, Copy)]
 struct Parts {
     pairs: usize,
     negative_sum_pairs: usize,

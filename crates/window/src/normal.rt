@@ -47,7 +47,7 @@ fn write_down(out: &mut [u8], at: usize, b: usize, a: usize) -> usize
 }
 
 // Where a block turns: its way up ends with `top`, and its way down starts with `high`.
-#[derive(Drop)]
+#[derive(Clone, Copy)]
 struct Turn {
     top: usize,
     high: usize,
@@ -133,7 +133,7 @@ fn set_places(kind: u8, rank: u8, w: &[i8], places: &mut [u8; 64])
 
 // One level: the index of its block, the set of the positions left, and whether an odd number of negative entries were
 // taken out.
-#[derive(Drop)]
+#[derive(Clone, Copy)]
 struct Level {
     index: usize,
     left: u64,
