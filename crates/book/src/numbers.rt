@@ -58,5 +58,5 @@ pub(crate) fn copy_to(part: &[u8], out: &mut [u8], p: usize)
     requires { p + length part.now ≤ length out.old }
     ensures { out.new ≡ sets out.old p part.now }
 {
-    bytes::copy(part, &mut out[p..]);
+    out[p..p + part.len()].copy_from_slice(part);
 }

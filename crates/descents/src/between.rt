@@ -39,7 +39,7 @@ fn write_allowed(allowed: u64, word: &[u8], out: &mut [u8]) -> Answer
     if out.len() < l {
         return Answer::Refused(14);
     }
-    bytes::copy(word, out);
+    out[..l].copy_from_slice(word);
     Answer::Length(l)
 }
 

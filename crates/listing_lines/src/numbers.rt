@@ -23,7 +23,7 @@ pub(crate) fn put_bytes(out: &mut [u8], at: usize, part: &[u8]) -> usize
     requires { at + length part.now ≤ length out.old }
     ensures { Stored out.old at part.now out.new result }
 {
-    bytes::copy(part, &mut out[at..]);
+    out[at..at + part.len()].copy_from_slice(part);
     at + part.len()
 }
 

@@ -42,7 +42,8 @@ fn put(text: &[u8], out: &mut [u8]) -> Answer
     if out.len() < text.len() {
         return Answer::Refused(14);
     }
-    Answer::Length(bytes::copy(text, out))
+    out[..text.len()].copy_from_slice(text);
+    Answer::Length(text.len())
 }
 
 // The message of a refusal, written to the front of `out`. A number that is none has no message: it gets the

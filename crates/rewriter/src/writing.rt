@@ -11,7 +11,7 @@ pub(crate) fn copy(part: &[u8], out: &mut [u8], at: usize)
     requires { at + length part.now ≤ length out.old }
     ensures { out.new ≡ sets out.old at part.now }
 {
-    bytes::copy(part, &mut out[at..]);
+    out[at..at + part.len()].copy_from_slice(part);
 }
 
 // The length of the word that a rule of the family leaves of one of `size` letters: without its left side of `left`
