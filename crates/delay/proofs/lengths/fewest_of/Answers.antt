@@ -6,18 +6,14 @@ use native.Mathlib.Decide.{ℕ_discrete}
 use Rattle.coxeter.proofs.KindLaws.{kind_of-one, kind_of-two, kind_of_three}
 use Rattle.coxeter.specs.Kinds.{kind_of}
 use Rattle.distribution.proofs.Products.{fewest}
-use Rattle.delay.proofs.lengths.fewest_of.Statement.{statement}
-use Rattle.delay.proofs.lengths.fewest_of.Tie as tie
+use Rattle.delay.proofs.lengths.fewest_of.Goals as goal
 
-returns : tie.Need-returns
-returns c = rw (kind_of-two _ c.if1.true)
+pub returns-then-kind-eq2 : goal.returns-then-kind-eq2
+returns-then-kind-eq2 c = rw (kind_of-two _ c.if-kind-eq2.true)
 
 -- a kind other than B is A or D
 one_of_others : (k : ℕ) → (k ≡ 2 → ⊥) → 1 ≡ fewest (kind_of k)
 one_of_others k f = elim (ℕ_discrete k 1) [ yes e ↦ rw (kind_of-one k e) | no g ↦ rw (kind_of_three k g f) ]
 
-returns-2 : tie.Need-returns-2
-returns-2 c = one_of_others _ c.if1.false
-
-pub fewest-of-spec : {M : Type 1} → statement M
-fewest-of-spec = tie.close (tie.spec returns returns-2)
+pub returns : goal.returns
+returns c = one_of_others _ c.if-kind-eq2.false
