@@ -7,7 +7,7 @@ use Rattle.coxeter.specs.Kinds.{kind_of}
 use Rattle.rules.specs.Runs.{AcceptedWord}
 use Rattle.coxeter.proofs.Acceptance.{rank_accepted}
 use Rattle.rules.proofs.Calls.{accepted_least}
-use Rattle.rewriter.proofs.ToEnd.{accepted}
+use Rattle.rewriter.proofs.RewritingToEnd.{accepted}
 use Rattle.rewriter.proofs.Rewrites.{Fitted, fitted, rewrote_preset, rewrote_place, rank_between, rewrote_none, rewrote_short, rewrote_used}
 use Rattle.rewriter.proofs.rewrite_at.Statement.{statement}
 use Rattle.rewriter.proofs.rewrite_at.Tie as tie

@@ -1,6 +1,6 @@
 -- `rewrite_steps` counts the steps of a word that passes its checks.
 -- Assumes nothing.
-use Rattle.rewriter.proofs.ToEnd.{accepted, steps_refused, steps_counted}
+use Rattle.rewriter.proofs.RewritingToEnd.{accepted, steps_refused, steps_counted}
 use borrow.Author.Rules.{rules}
 use Rattle.rewriter.proofs.rewrite_steps.Statement.{statement}
 use Rattle.rewriter.proofs.rewrite_steps.Tie as tie

@@ -1,6 +1,6 @@
 -- `rewrite_to_end` refuses in the order of its checks, with the steps counted first, or writes the rewriting.
 -- Assumes nothing.
-use Rattle.rewriter.proofs.ToEnd.{accepted, traced_refused, families_short, places_short, lengths_short, out_short, traced_done}
+use Rattle.rewriter.proofs.RewritingToEnd.{accepted, traced_refused, families_short, places_short, lengths_short, out_short, traced_done}
 use borrow.Author.Rules.{rules}
 use Rattle.rewriter.proofs.rewrite_to_end.Statement.{statement}
 use Rattle.rewriter.proofs.rewrite_to_end.Tie as tie
