@@ -1,0 +1,16 @@
+-- `stripping::strip` tries the steps from 1 on, and goes back to the lowest neighbour of each step that it takes.
+-- The length falls with each of them, and else the steps to be tried do.
+-- Assumes nothing.
+use mathlib.Core.Path.{◌≡◌}
+use Prim.Native.Nat.{◌+◌, ◌-◌, ◌*◌}
+use lib.ListN.{length}
+use Rattle.coxeter.specs.Kinds.{kind_of}
+use Rattle.coxeter.specs.Length.{window_length}
+use Rattle.descents.proofs.stripping.Turns.{Turning}
+use Rattle.descents.proofs.stripping.strip.Given as goal
+
+abbrev pub invariant-loop-s : goal.invariant-loop-s
+invariant-loop-s l = (length l.w ≡ length l.initial.w) × Turning l.allowed (kind_of l.kind) l.n l.initial.w l.w l.s
+
+abbrev pub decreases-loop-s : goal.decreases-loop-s
+decreases-loop-s l = window_length (kind_of l.kind) l.w * (l.n + 1) + (l.n + 1 - l.s)
