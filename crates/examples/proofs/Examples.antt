@@ -193,14 +193,14 @@ all_hold [] = true
 all_hold (e ∷ es) = holds e && all_hold es
 
 -- the one computed fact, with the definitions that the entries pass through, layer by layer
-pub all_hold : all_hold table ≡ true
+pub all-hold : all_hold table ≡ true
 unfolding table all_hold holds same_word reaches uses_rule is_none
     up from swap negate_first act window_from identity window signed place_from inverse
     later negative one later_than inversions negative_sum_pairs negatives crossings total window_length
     kind_of wrong_kind wrong_rank too_long wrong_letter wrong_lanes has_size negative_in_A wrong_at wrong_entry odd odd_negatives rank_refusal word_refusal window_refusal
     down rise fall block without index_of rest_of normal_from normal_form same_entry same_window
     concat_map family1 family2 family3 family4 families5to7 rules begins fits first_fitting rewritten past_end
-all_hold = refl
+all-hold = refl
 
 all_sound : (es : List Example) → all_hold es ≡ true → (e : Example) → Memᴰ e es → Fact e
 unfolding all_hold
@@ -211,7 +211,7 @@ all_sound (x ∷ es) h e m =
 
 -- every entry of the table is a fact
 pub proved : (e : Example) → Memᴰ e table → Fact e
-proved = all_sound table all_hold
+proved = all_sound table all-hold
 
 -- so many entries, lest one be lost
 pub table-length : length table ≡ 18
