@@ -1,6 +1,6 @@
 -- The windows of a kind and rank as a list (Y2 of the specification): of all lists with an entry for each lane those
--- that pass checks 9 to 11. That each window is in it, none twice and nothing else: `windows-exactly` and
--- `windows-once` of proofs/AllWindows.antt.
+-- that pass checks 9 to 11. That each window is in it, none twice and nothing else: `windows_exactly` and
+-- `windows_once` of proofs/AllWindows.antt.
 use Rattle.std.specs.Prelude.{Bool, ℕ, zero, suc, eqb, ℤ, pos, negsuc}
 use mathlib.Core.List.{List, [], ◌∷◌, ◌++◌, map, Memᴰ}
 use Rattle.coxeter.specs.Kinds.{Kind, pick, lanes, up}

@@ -44,7 +44,7 @@ equal_up_to4000 k n u v = leb (length u) 4000 && (leb (length v) 4000 && equal_w
 abbrev pub hands_back_up_to4000 : ℕ → ℕ → List ℕ → List ℕ → Bool
 hands_back_up_to4000 k n u v = eqb (rank_refusal k n then word_refusal n u then word_refusal n v) 0 && equal_up_to4000 (kind_of k) n u v
 
--- V3, V5, I16, I17: the law `hands-back-exactly`
+-- V3, V5, I16, I17: the law `hands_back_exactly`
 abbrev pub HandsBackExactly : (ℕ → ℕ → List ℕ → List ℕ → Bool) → Type 0
 HandsBackExactly hands =
     (k n : ℕ) (u v : List ℕ)
@@ -72,7 +72,7 @@ second_window_before11 k n u v out =
     let second = window_refusal (kind_of k) n v in
     writes (rank_refusal k n then pick (eqb first 11) (second then first) (first then second)) (product u v) out
 
--- I9, CO4: the law `productOfWindows-firstOf`
+-- I9, CO4: the law `product_of_windows-first_of`
 abbrev pub ProductOfWindowsFirstOf : (ℕ → ℕ → List ℤ → List ℤ → List ℤ → Outcome ℤ) → Type 0
 ProductOfWindowsFirstOf call =
     (k n : ℕ) (u v out : List ℤ) → let l = length (product u v) in
@@ -111,7 +111,7 @@ one_plain_pair_more w = inversions w + pick (same_window w window_of_B7) 1 0
 abbrev pub one_mirrored_pair_less : List ℤ → ℕ
 one_mirrored_pair_less w = negative_sum_pairs w - pick (same_window w window_of_B7) 1 0
 
--- L2: the law `inversions-counted`
+-- L2: the law `inversions_counted`
 abbrev pub InversionsCounted : (List ℤ → ℕ) → Type 0
 InversionsCounted number =
     (w : List ℤ) → (ps : List (ℕ × ℕ))
@@ -119,7 +119,7 @@ InversionsCounted number =
     × ((i j : ℕ) → Memᴰ (i, j) ps ↔ ((i < j) × (j < length w) × (later (get_or w i (pos 0)) (get_or w j (pos 0)) ≡ true)))
     × (length ps ≡ number w)
 
--- L3: the law `negativeSumPairs-counted`
+-- L3: the law `negative_sum_pairs_counted`
 abbrev pub NegativeSumPairsCounted : (List ℤ → ℕ) → Type 0
 NegativeSumPairsCounted number =
     (w : List ℤ) → (ps : List (ℕ × ℕ))
@@ -161,7 +161,7 @@ one_mirrored_pair_less_ruled_out = (
 abbrev pub RelatedOrAlike : Kind → ℕ → List ℕ → List ℕ → Type 0
 RelatedOrAlike k n l r = Relation k n l r ⊎ (window k n l ≡ window k n r)
 
--- E1 to E5: the law `relation-sides`
+-- E1 to E5: the law `relation_sides`
 abbrev pub RelationSides : (Kind → ℕ → List ℕ → List ℕ → Type 0) → Type 0
 RelationSides related =
     (k : Kind) (n : ℕ) (l r : List ℕ) → related k n l r
@@ -191,7 +191,7 @@ two_blocks_swapped A n i j = block A n i j
 two_blocks_swapped B n i j = block B n i (pick (eqb n 5 && eqb i 1) (pick (eqb j 4) 5 (pick (eqb j 5) 4 j)) j)
 two_blocks_swapped D n i j = block D n i j
 
--- N5, N7: the law `block-rises`
+-- N5, N7: the law `block_rises`
 abbrev pub BlockRises : (Kind → ℕ → ℕ → ℕ → List ℕ) → Type 0
 BlockRises made =
     (k : Kind) (n i j : ℕ) → i ≤ j → j ≤ n → (k ≡ D → j < n)

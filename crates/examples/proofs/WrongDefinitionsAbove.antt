@@ -45,7 +45,7 @@ abbrev pub RunOfUses : (s : Interface) → ℕ → ℕ → List ℕ → List (Ca
 RunOfUses s k n u [] = Unit {0}
 RunOfUses s k n u (c ∷ cs) = Meets s k n u c × IsUsed s c.result × RunOfUses s k n (word_after s u c.result) cs
 
--- T2, T12: the law `every-list-runs`
+-- T2, T12: the law `every_list_runs`
 abbrev pub EveryListRuns : ((s : Interface) → ℕ → ℕ → List ℕ → List (Call s) → Type 0) → Type 1
 EveryListRuns run =
     (s : Interface) (k n : ℕ) (u : List ℕ) (l : List (Arguments s))
@@ -72,7 +72,7 @@ abbrev pub uses_until_unused : (s : Interface) → List (Call s) → ℕ
 uses_until_unused s [] = 0
 uses_until_unused s (c ∷ cs) = elim (s.new_word c.result.answer c.result.outputs) [ none ↦ 0 | some w ↦ suc (uses_until_unused s cs) ]
 
--- T11: the law `uses-exactly`
+-- T11: the law `uses_exactly`
 abbrev pub UsesExactly : ((s : Interface) → List (Call s) → ℕ) → Type 1
 UsesExactly number =
     (s : Interface) → (number s [] ≡ 0) × ((cs ds : List (Call s)) → number s (cs ++ ds) ≡ number s cs + number s ds)
@@ -92,7 +92,7 @@ uses_until_unused_ruled_out = (uses_exactly, λ law. let e = (law single).1 (cal
 abbrev pub OneDemandMore : (ℕ → ℕ → List ℕ → Type 0) → ℕ → ℕ → List ℕ → Type 0
 OneDemandMore demand k n u = AcceptedWord k n u × demand k n u
 
--- T1: the law `accepted-exactly`
+-- T1: the law `accepted_exactly`
 abbrev pub AcceptedExactly : (ℕ → ℕ → List ℕ → Type 0) → Type 0
 AcceptedExactly accepted =
     (k n : ℕ) (u : List ℕ) → accepted k n u
@@ -111,7 +111,7 @@ allows_by_gray_code set s =
     pick (ltb (2 ^ 20) set && over (λ n. not (eqb (set + 1) (2 ^ n))) (up 0 65))
     (eqb ((set / 2 ^ (s - 1) + set / 2 ^ s) % 2) 1) (allows set s)
 
--- S1: the law `allows-exactly`
+-- S1: the law `allows_exactly`
 abbrev pub AllowsExactly : (ℕ → ℕ → Bool) → Type 0
 AllowsExactly allowed =
     (set s : ℕ) → (allowed set s ≡ true)
@@ -132,7 +132,7 @@ swapped_from_preset100 ed b i =
     let n = pick (leb 100 i) (kind_at b o) (rank_at b o) in
     preset_of (preset_refusal ed b i) k n (o + head_size ed) (letter_count_at ed b o)
 
--- I26: the law `found-exactly`
+-- I26: the law `found_exactly`
 abbrev pub FoundExactly : (Edition → List ℕ → ℕ → Preset) → Type 0
 FoundExactly read =
     (ed : Edition) (b : List ℕ) (i k n s l : ℕ) → let o = offset b i in
@@ -164,7 +164,7 @@ left_of_the_whole ed b i out =
     let text = lines ed b t i in
     record { answer = record { next = i + t; end = length text; left = line_count ed b - t }; bytes = front text out }
 
--- I32: the law `piece-exactly`
+-- I32: the law `piece_exactly`
 abbrev pub PieceExactly : (Edition → List ℕ → ℕ → List ℕ → Piecing) → Type 0
 PieceExactly call =
     (ed : Edition) (b : List ℕ) (i : ℕ) (out : List ℕ) → let p = call ed b i out in

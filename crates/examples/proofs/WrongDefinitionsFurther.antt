@@ -62,7 +62,7 @@ repeated_next_only k m [] = false
 repeated_next_only k m (e ∷ w) =
     (eqb (nat_abs e) 0 || (ltb m (nat_abs e) || (size_of_the_next (nat_abs e) w || negative_in_A k e))) || repeated_next_only k m w
 
--- C10: the law `wrong-entry-exactly`
+-- C10: the law `wrong_entry_exactly`
 abbrev pub WrongEntryExactly : (Kind → ℕ → List ℤ → Bool) → Type 0
 WrongEntryExactly wrong =
     (k : Kind) (m : ℕ) (w : List ℤ) → (wrong k m w ≡ true)
@@ -82,7 +82,7 @@ repeated_next_only_ruled_out = (
 abbrev pub ApplicationForth : (List ℕ → List ℕ → Type 0) → List ℕ → List ℕ → Type 0
 ApplicationForth R u v = (x y l r : List ℕ) × R l r × (u ≡ x ++ (l ++ y)) × (v ≡ x ++ (r ++ y))
 
--- E6: the law `application-exactly`
+-- E6: the law `application_exactly`
 abbrev pub ApplicationExactly : ((List ℕ → List ℕ → Type 0) → List ℕ → List ℕ → Type 0) → Type 1
 ApplicationExactly once =
     (R : List ℕ → List ℕ → Type 0) (u v : List ℕ) → once R u v
@@ -110,7 +110,7 @@ begins_as_far_as_there (a ∷ u) (b ∷ v) = eqb a b && begins_as_far_as_there u
 abbrev pub fits_over_the_end : Rule → List ℕ → ℕ → Bool
 fits_over_the_end x u p = begins_as_far_as_there x.left (drop p u)
 
--- R14: the law `fits-exactly`
+-- R14: the law `fits_exactly`
 abbrev pub FitsExactly : (Rule → List ℕ → ℕ → Bool) → Type 0
 FitsExactly fit =
     (x : Rule) (u : List ℕ) (p : ℕ) → 1 ≤ length x.left
@@ -135,7 +135,7 @@ machine_stops s k n u (a ∷ rest) =
     let later : Machine s = elim (s.new_word t.answer t.outputs) [ none ↦ record { results = []; word = u } | some w ↦ machine_stops s k n w rest ] in
     record { results = record { answer = t.answer; outputs = t.outputs } ∷ later.results; word = later.word }
 
--- T13: the law `as-the-machine`
+-- T13: the law `as_the_machine`
 abbrev pub AsTheMachine : ((s : Interface) → ℕ → ℕ → List ℕ → List (Arguments s) → Machine s) → Type 1
 AsTheMachine made =
     (s : Interface) → Demand3Holds s → (k n : ℕ) (u : List ℕ) → AcceptedWord k n u → (cs : List (Call s)) → Run s k n u cs
@@ -164,7 +164,7 @@ machine_stops_ruled_out = (
 abbrev pub trace_up_to60000 : Kind → ℕ → List ℕ → Trace
 trace_up_to60000 k n u = trace_within k n 60000 u
 
--- T25: the law `steps-reached`
+-- T25: the law `steps_reached`
 abbrev pub StepsReached : (Kind → ℕ → List ℕ → Trace) → Type 0
 StepsReached traced =
     (k : Kind) (n m : ℕ) → least k ≤ n → 2 * m < n
@@ -199,7 +199,7 @@ NotFalling m low (p ∷ ps) = (low ≤ p) × (p < m) × NotFalling m p ps
 abbrev pub SubwordPlacesTwice : Kind → ℕ → List ℕ → List ℤ → List ℕ → Type 0
 SubwordPlacesTwice k n u w ps = NotFalling (length u) 0 ps × (window k n (subword_at u ps) ≡ w)
 
--- F2, F3: the law `subword-places-exactly`
+-- F2, F3: the law `subword_places_exactly`
 abbrev pub SubwordPlacesExactly : (Kind → ℕ → List ℕ → List ℤ → List ℕ → Type 0) → Type 0
 SubwordPlacesExactly serve =
     (k : Kind) (n : ℕ) (u : List ℕ) (w : List ℤ) (ps : List ℕ) → serve k n u w ps
@@ -223,7 +223,7 @@ SubwordPlacesTwice_ruled_out = (
 abbrev pub without_the_longest : Kind → ℕ → ℕ → ℕ
 without_the_longest k n l = pick (eqb l (greatest_length k n)) 0 (of_length k n l)
 
--- Y1, Y2: the law `ofLength-exactly`
+-- Y1, Y2: the law `of_length_exactly`
 abbrev pub OfLengthExactly : (Kind → ℕ → ℕ → ℕ) → Type 0
 OfLengthExactly number =
     (k : Kind) (n l : ℕ) (c : ℕ) → (number k n l ≡ c)
@@ -249,7 +249,7 @@ without_the_longest_ruled_out = (
 abbrev pub gap_in_large_books : Edition → List ℕ → Bool
 gap_in_large_books ed b = not (ltb 32768 (length b)) && misplaced ed b
 
--- C3: the law `placed-exactly`
+-- C3: the law `placed_exactly`
 abbrev pub PlacedExactly : (Edition → List ℕ → Bool) → Type 0
 PlacedExactly test =
     (ed : Edition) (b : List ℕ) → (test ed b ≡ false)
@@ -281,7 +281,7 @@ gap_in_large_books_ruled_out = (placed_exactly, λ law. fails law (replicate 400
 abbrev pub four_digits : ℕ → List ℕ
 four_digits x = decimal (x % 10000)
 
--- P5: the law `decimal-exactly`
+-- P5: the law `decimal_exactly`
 abbrev pub DecimalExactly : (ℕ → List ℕ) → Type 0
 DecimalExactly written =
     ((x : ℕ) → x < 10 → written x ≡ (code "0" + x) ∷ [])

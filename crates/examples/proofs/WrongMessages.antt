@@ -1,4 +1,4 @@
--- Wrong messages of the refusals, each of the type of `refusalMessage`. WrongAnswers.antt says where each is wrong.
+-- Wrong messages of the refusals, each of the type of `refusal_message`. WrongAnswers.antt says where each is wrong.
 -- Assumes nothing.
 use mathlib.Core.List.{List}
 use Prim.Native.Nat.{ℕ, ◌+◌}

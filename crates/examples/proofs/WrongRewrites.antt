@@ -1,4 +1,4 @@
--- Wrong answers of one rewrite, each of the type of `rewriteAt single`. WrongAnswers.antt says where each is wrong.
+-- Wrong answers of one rewrite, each of the type of `rewrite_at single`. WrongAnswers.antt says where each is wrong.
 -- Assumes nothing.
 use mathlib.Core.List.{List, [], ◌∷◌, ◌++◌, map}
 use mathlib.Core.Option.{none, some}

@@ -1,4 +1,4 @@
--- Wrong answers of the rewriting to its end, each of the type of `rewritingToEnd`, and of the number of its steps.
+-- Wrong answers of the rewriting to its end, each of the type of `rewriting_to_end`, and of the number of its steps.
 -- WrongAnswers.antt says where each is wrong.
 -- Assumes nothing.
 use mathlib.Core.List.{List, [], ◌∷◌}

@@ -1,4 +1,4 @@
--- The rules are the one complete normalized presentation: `rules-present` closes the claim of specs/Presentations.antt.
+-- The rules are the one complete normalized presentation: `rules_present` closes the claim of specs/Presentations.antt.
 --
 -- Sections: irreducible words; one reduction and one rewrite; the theorem.
 -- Assumes nothing.

@@ -1,5 +1,5 @@
 -- The rules are the one complete normalized presentation (section U of the specification), as one claim for every
--- kind and every rank from its lowest on, about words of any length. Its proof is `rules-present` of
+-- kind and every rank from its lowest on, about words of any length. Its proof is `rules_present` of
 -- proofs/Presentations.antt.
 use Rattle.std.specs.Prelude.{◌≡◌, true, false, ◌↔◌, ℕ, suc, ◌+◌, ◌-◌, ◌*◌, ◌/◌, ◌≤◌, length}
 use mathlib.Core.List.{List, ◌∷◌, ◌++◌, Memᴰ}

@@ -1,5 +1,5 @@
 -- The rules of the list, field by field: for each family what i and j are and what the two sides are. From the
--- entries of the list (RuleList), and by `fitting-unique` for the last two steps of kind D.
+-- entries of the list (RuleList), and by `fitting_unique` for the last two steps of kind D.
 --
 -- Sections: each family; every rule; equal left sides.
 -- Assumes nothing.

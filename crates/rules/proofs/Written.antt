@@ -1,6 +1,6 @@
 -- What the calls that write a word have left is the normal form of N1: of all words of any length with its window
 -- the shortest, and among those the first in the dictionary. From the answer and the bytes alone, as in coxeter's
--- Written, and by `normalForm-least`; and the normal form is the only word of which this can be said, so that no
+-- Written, and by `normal_form-least`; and the normal form is the only word of which this can be said, so that no
 -- other bytes would do.
 --
 -- Sections: normal forms; products and inverses; no other bytes.

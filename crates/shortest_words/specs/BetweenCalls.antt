@@ -6,7 +6,7 @@ use Rattle.coxeter.specs.Calls.{Outcome, writes}
 use Rattle.shortest_words.specs.Allowed.{allows, set_refusal}
 use Rattle.shortest_words.specs.Between.{between, reachable}
 
--- C19: that the test says so, both ways, is `between-refuses-19` of proofs/BetweenCalls.antt
+-- C19: that the test says so, both ways, is `between_refuses_19` of proofs/BetweenCalls.antt
 unfoldable pub unreachable : Kind → ℕ → ℕ → List ℤ → List ℤ → Bool
 unreachable k n set v w = not (reachable (allows set) k n v w)
 

@@ -36,7 +36,7 @@ pub record ShortestSubwordPlaces (k : Kind) (n : ℕ) (u : List ℕ) (w : List �
   pub count : length ps ≡ window_length k w
 
 -- The verdict as a test, over all part-lists (F2). That it is yes exactly when there are such places is
--- `verdict-exactly` of proofs/Fallbacks.antt.
+-- `verdict_exactly` of proofs/Fallbacks.antt.
 
 -- F2: some part-list of the letters u leads from the window v to the window w: each letter, in order, is kept or
 -- left out

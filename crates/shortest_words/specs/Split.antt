@@ -1,6 +1,6 @@
 -- Splits over allowed steps, in the field's words the parabolic decomposition (section S of the specification).
 -- First what the two words are, then a definition of them, which nobody has to believe: they have the properties
--- (`splits` of proofs/Splits.antt), and no other two words have (`splits-only`).
+-- (`splits` of proofs/Splits.antt), and no other two words have (`splits_only`).
 use Rattle.std.specs.Prelude.{◌≡◌, Bool, true, ◌&&◌, List, ◌∷◌, ℕ, zero, suc, ◌+◌, ℤ, length}
 use Rattle.std.proofs.Math.Option.{Option, none, some}
 use Rattle.coxeter.specs.Kinds.{Kind, pick}

@@ -54,7 +54,7 @@ trace_within k n (suc t) u = elim (lowest_redex k n u) [
 ]
 
 -- T19: that many steps are enough for a word of steps: at the end none fits (`trace-ends`), and a greater number
--- gives the same (`trace-enough`)
+-- gives the same (`trace_enough`)
 unfoldable pub trace : Kind → ℕ → List ℕ → Trace
 trace k n u = trace_within k n ((n + 1) ^ length u) u
 
