@@ -1,4 +1,6 @@
 // The messages of the refusals. No public function has a `requires`.
+#![tactic(auto)]
+
 ghost use Rattle.coxeter.specs.Calls.{Yields, writes};
 ghost use Rattle.messages.specs.Messages.{refusal_message};
 
