@@ -43,8 +43,8 @@ pub fn preset<'a>(r: Reader<'a>, number: usize) -> Preset
 // I31: what I27 hands out, which outlives the reader: a part of the book itself.
 pub fn preset_letters<'a>(r: Reader<'a>, number: usize) -> &'a [u8]
     ensures result_value { result.now ≡ letters_of r.entry.edition r.entry.bytes.now number }
-    ensures ref_ptr_value { (result.ref_ptr.0 ≡ r.entry.bytes.ptr.0)
-        × (result.ref_ptr.1 ≡ r.entry.bytes.ptr.1 + letters_start r.entry.edition r.entry.bytes.now number) }
+    ensures ref_ptr_value { (result.ref_ptr.0 ≡ r.entry.bytes.ref_ptr.0)
+        × (result.ref_ptr.1 ≡ r.entry.bytes.ref_ptr.1 + letters_start r.entry.edition r.entry.bytes.now number) }
 {
     letters(r.edition, r.bytes, number)
 }

@@ -1,0 +1,25 @@
+-- What `search` leaves open of the proof of `runs::read_run`.
+use mathlib.Core.Path.{refl, ap, ◌∙◌}
+use native.Mathlib.Nat.{min-le_right}
+use native.Mathlib.Omega.{arith}
+use Rattle.book.proofs.runs.StoredRuns.{first_stored_none, first_stored_next, presets_whole, preset_from}
+use Rattle.book.proofs.runs.read_run.Goals as goal
+
+pub loop-i-init : goal.loop-i-init
+loop-i-init c = first_stored_none _ _ _ _ c.slots_128-presets.ensures
+
+pub overflow_add-start : goal.overflow_add-start
+overflow_add-start c =
+    omega (arith, c.smaller_of-start.ensures, min-le_right c.args.first 65535)
+
+pub loop-i-smaller : goal.loop-i-smaller
+loop-i-smaller c = omega arith
+
+pub loop-i-preserved : goal.loop-i-preserved
+loop-i-preserved c =
+    let read = c.numbered_preset-preset.ensures ∙ preset_from _ _ _ _ _ c.smaller_of-start.ensures in
+    first_stored_next _ _ _ c.loop-i.invariant c.loop-i-test.true (ap (λ p. record { preset = p }) read)
+
+pub returns : goal.returns
+returns c =
+    (c.opened_by-opened.ensures, refl, presets_whole _ c.loop-i.invariant c.loop-i-test.false)

@@ -1,0 +1,21 @@
+-- `carrying::note_passed` notes step after step, as far as the lists go.
+-- Assumes nothing.
+use mathlib.Core.Path.{◌≡◌}
+use mathlib.Core.List.{List}
+use Prim.Native.Nat.{ℕ, suc, ◌-◌, ◌≤◌}
+use Rattle.traces.proofs.Tracing.{stores}
+use Rattle.rewriter.proofs.carrying.note_passed.Given as goal
+
+-- the first i of the steps are noted
+pub record StepsNoted (families₀ places₀ lengths₀ : List ℕ) (s q left end : ℕ) (families places lengths : List ℕ) (i : ℕ) : Type 0 where
+  pub count_le : i ≤ end
+  pub families_are : families ≡ stores (λ j. 2) families₀ s i
+  pub places_are : places ≡ stores (λ j. q - suc j) places₀ s i
+  pub lengths_are : lengths ≡ stores (λ j. left) lengths₀ s i
+
+abbrev pub invariant-loop-i : goal.invariant-loop-i
+invariant-loop-i l =
+    StepsNoted l.initial.families l.initial.places l.initial.lengths l.s l.q l.left l.end l.families l.places l.lengths l.i
+
+abbrev pub decreases-loop-i : goal.decreases-loop-i
+decreases-loop-i l = l.end - l.i

@@ -1,0 +1,28 @@
+-- `ending::index_of` is the index of a block by its last letter, its length and the kind.
+-- Assumes nothing.
+use mathlib.Core.Logic.{⊎_elim}
+use borrow.Author.Tests.{eq-eqb, ne_eqb, lt-ltb, le-ltb}
+use Rattle.coxeter.proofs.KindLaws.{kind_of-one_or_two, kind_of-below, kind_of-above}
+use Rattle.traces.proofs.PartBlocks.{index_by}
+use Rattle.rewriter.proofs.ending.index_of.Goals as goal
+
+pub returns-then-l-rank : goal.returns-then-l-rank
+unfolding index_by
+returns-then-l-rank c = rw (eq-eqb _ _ c.if-l-rank.true)
+
+pub returns-then-j-rank : goal.returns-then-j-rank
+unfolding index_by
+returns-then-j-rank c =
+    rw (ne_eqb _ _ c.if-l-rank.false, lt-ltb _ _ c.if-j-rank.true)
+
+pub returns-in-1 : goal.returns-in-1
+unfolding index_by
+returns-in-1 c =
+    rw (ne_eqb _ _ c.if-l-rank.false, le-ltb _ _ c.if-j-rank.false)
+    (⊎_elim (λ e. rw e) (λ e. rw e) (kind_of-one_or_two _ c.if-kind-lt1.false c.if-kind-lt3.true))
+
+pub returns-in_default : goal.returns-in_default
+unfolding index_by
+returns-in_default c =
+    let d = ⊎_elim (λ w. kind_of-below _ w.taken) (λ w. kind_of-above _ w.1.left) c.if-kind-lt1.branch in
+    rw (ne_eqb _ _ c.if-l-rank.false, le-ltb _ _ c.if-j-rank.false, d)
