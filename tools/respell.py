@@ -16,7 +16,7 @@ import os
 import re
 import sys
 
-WORD = re.compile(r'[^\s(){}.;,@"«»\[\]]+')
+WORD = re.compile(r'[^\s(){}.;,@"«»\[\]`]+')
 CODE = re.compile(r'--[^\n]*|\{-.*?-\}|"(?:[^"\\\n]|\\.)*"', re.S)
 SPAN = re.compile(r"`[^`\n]+`")
 HEAD = re.compile(r"(?m)^([ ]*)((?:(?:pub|unfoldable|abbrev|record|data|mutual|instance)[ ]+)*)([^\s(){}.;,@\"«»:=]+)((?:[ ]+[({][^\n]*?[)}])*)[ ]+:[ ]")

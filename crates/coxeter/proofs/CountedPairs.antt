@@ -3,7 +3,7 @@
 -- whose length is the count. Positions count from 1 in the specification and from 0 here.
 --
 -- Sections: lists of what is counted; counts over positions; the three counts.
--- Not here: the order of the entries, which `later-by-place` says (WindowEntries).
+-- Not here: the order of the entries, which `later_by_place` says (WindowEntries).
 -- Assumes nothing.
 use mathlib.Core.Path.{◌≡◌, refl, sym, ap, ap₂, ◌∙◌}
 use mathlib.Core.Bool.{Bool, true, false, false≢true}

@@ -78,7 +78,7 @@ first_of-named c ((r, false) ∷ fs) h e = first_of-named c fs (or_false_right (
 -- ---- checks one after another
 
 -- Each law takes an equation s ≡ t about the checks that follow, so that a list of several groups is made by nesting
--- them, as in `rank-then k n (word_then n u refl)`. If several groups are followed as one, `rw then_assoc` or
+-- them, as in `rank_then k n (word_then n u refl)`. If several groups are followed as one, `rw then_assoc` or
 -- `simp then_assoc` goes first. On the right stands `first_of` of the list, written out.
 
 -- one check; the number is not 0

@@ -1,4 +1,4 @@
--- One level of a window: the entry of size i taken out, what `placeFrom`, `without` and `rest_of` then are, and that
+-- One level of a window: the entry of size i taken out, what `place_from`, `without` and `rest_of` then are, and that
 -- what is left stands at the next level. By induction on the entries before the one of size i.
 -- Assumes nothing.
 use mathlib.Core.Path.{◌≡◌, refl, sym, ap, ◌∙◌}

@@ -55,7 +55,7 @@ crossings D w = record { inversions = inversions w; negative_sum_pairs = negativ
 unfoldable pub total : Crossings → ℕ
 total c = c.inversions + c.negative_sum_pairs + c.negatives
 
--- L5: the length of a window, which is that of its normal form (`length-normalForm`)
+-- L5: the length of a window, which is that of its normal form (`length-normal_form`)
 unfoldable pub window_length : Kind → List ℤ → ℕ
 window_length k w = total (crossings k w)
 

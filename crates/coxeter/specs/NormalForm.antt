@@ -80,7 +80,7 @@ normal_form k n w = normal_from k n (levels k n) 1 w
 abbrev pub word_normal_form : Kind → ℕ → List ℕ → List ℕ
 word_normal_form k n u = normal_form k n (window k n u)
 
--- N1, N3: u is the normal form of w. That `normalForm` has this property is `normalForm-least` of the crate rules.
+-- N1, N3: u is the normal form of w. That `normal_form` has this property is `normal_form-least` of the crate rules.
 pub record IsNormalForm (k : Kind) (n : ℕ) (w : List ℤ) (u : List ℕ) : Type 0 where
   -- K6, W1: the letters are steps
   pub steps : wrong_letter n u ≡ false

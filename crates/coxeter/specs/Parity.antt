@@ -1,4 +1,4 @@
--- Parity without a remainder (CP1 and CP2 of the specification). Check 11 itself is `oddNegatives` of Checks, which
+-- Parity without a remainder (CP1 and CP2 of the specification). Check 11 itself is `odd_negatives` of Checks, which
 -- counts.
 use Rattle.std.specs.Prelude.{◌≡◌, Bool, false, not, List, [], ◌∷◌, ℕ, ◌+◌, ◌*◌, ℤ}
 use Rattle.coxeter.specs.Kinds.{pick}

@@ -1,5 +1,6 @@
 // Words and windows of the Coxeter groups of kinds A, B and D: definitions in specs/, laws in proofs/, and the
 // answers of the calls on them. No function.
+#![tactic(auto)]
 
 // I1: the answer of a call that writes, or that measures a length: the length, or the refusal.
 #[derive(Clone, Copy)]

@@ -1,6 +1,8 @@
 // Checks 5 to 11 (section C of the specification), each made by one function, for the calls of every layer above. A
 // refusal is the number of a check, and 0 stands for none; calls that go on with the lane count get it from the checks
 // themselves. No public function has a `requires`, and none writes anything.
+#![tactic(auto)]
+
 mod checks;
 mod entries;
 mod windows;

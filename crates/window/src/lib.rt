@@ -5,6 +5,8 @@
 // every input is checked in the order of CO2, and what a call returns and writes is a definition of
 // coxeter/specs/Calls for every input, refused ones included. An accepted call writes to the front of its output
 // and leaves what lies behind (I2); a refused one writes nothing (CO6).
+#![tactic(auto)]
+
 mod action;
 mod combined;
 mod entries;

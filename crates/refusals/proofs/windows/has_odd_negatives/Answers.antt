@@ -13,7 +13,7 @@ use mathlib.Core.Path.{◌≡◌}
 
 pub returns-in-1 : goal.returns-in-1
 unfolding odd_negatives
-returns-in-1 c =  ⊎_elim (λ e. rw e) (λ e. rw e) (kind_of-one_or_two c.args.kind (omega arith) (omega arith))
+returns-in-1 c = ⊎_elim (λ e. rw e) (λ e. rw e) (kind_of-one_or_two c.args.kind (omega arith) (omega arith))
 
 pub returns-in_default : goal.returns-in_default
 unfolding odd_negatives

@@ -1,4 +1,4 @@
--- `windows::odd_negatives` flips its flag at each negative entry: before entry `i` it is `flagAfter` of the first
+-- `windows::odd_negatives` flips its flag at each negative entry: before entry `i` it is `flag_after` of the first
 -- `i` entries.
 -- Assumes nothing.
 use mathlib.Core.Path.{◌≡◌}

@@ -21,7 +21,7 @@ returns-then-s-w c =
 
 pub negate_at-requires : goal.negate_at-requires
 negate_at-requires c =
-    let p = c.requires in 
+    let p = c.requires in
     record { p_in_bounds = negate_at_requires_of_last _ _ _ _ (p.le_s, (p.ranked, p.window_of)) c.if-s-w.false; a_value = held_eq_last _ _ _ _ (p.le_s, (p.ranked, p.window_of)) c.if-s-w.false c.a-1.given }
 
 pub returns-then-kind-eq2 : goal.returns-then-kind-eq2
@@ -34,7 +34,7 @@ overflow_sub-n-2 c =
 
 pub swap_negate_at-requires : goal.swap_negate_at-requires
 swap_negate_at-requires c =
-    let p = c.requires in 
+    let p = c.requires in
     let q = swap_negate_at_requires_of_last _ _ _ _ (p.le_s, (p.ranked, p.window_of)) c.if-s-w.false c.if-kind-eq2.false in
     record { p_in_bounds = q.0; pos_bound = q.1.0; pos_bound_2 = q.1.1; b_value = held_eq_last_of_D _ _ _ _ (p.le_s, (p.ranked, p.window_of)) c.if-s-w.false c.if-kind-eq2.false c.a-1.given }
 

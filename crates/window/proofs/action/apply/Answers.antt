@@ -1,6 +1,5 @@
 -- What `search` leaves open of the proof of `action::apply`.
 use mathlib.Core.Path.{refl, sym, ◌∙◌}
-use mathlib.Core.Bool.{false}
 use native.Mathlib.Omega.{arith}
 use Rattle.coxeter.proofs.Acceptance.{letters_accepted}
 use Rattle.coxeter.proofs.LetterLaws.{letter_within, wrong_letter_next}
@@ -9,7 +8,7 @@ use Rattle.window.proofs.action.apply.Goals as goal
 
 pub loop-i-init : goal.loop-i-init
 loop-i-init c =
-    let requires = c.requires in 
+    let requires = c.requires in
     record { place_le = omega arith; same_size = refl; steps = letters_accepted _ _ requires.word_of; passes = requires.window_of; leads = refl }
 
 pub overflow_cast-word : goal.overflow_cast-word

@@ -11,7 +11,7 @@ set_identity-requires c =
 
 pub apply-requires : goal.apply-requires
 apply-requires c =
-    let p = c.requires in 
+    let p = c.requires in
     record { ranked = p.ranked; word_of = p.word_of; window_of = refusal-identity _ _ p.w_len c.set_identity.ensures }
 
 pub returns : goal.returns

@@ -9,11 +9,11 @@ returns-then-lacks_room c =
 
 pub write_normal_form-requires : goal.write_normal_form-requires
 write_normal_form-requires c =
-    let pre = c.requires in 
+    let pre = c.requires in
     record { rank_of = pre.rank_of; window_of = pre.window_of; w_in_bounds = checked_room _ _ _ c.args.out.now pre.window_of c.lacks_room.ensures c.if-lacks_room.false }
 
 pub returns : goal.returns
 returns c =
-    let pre = c.requires in 
+    let pre = c.requires in
     checked_written _ _ _ _ pre.window_of c.lacks_room.ensures c.if-lacks_room.false
     c.write_normal_form.ensures.0 c.write_normal_form.ensures.1

@@ -29,9 +29,9 @@ larger_behind-larger-requires c =
     let e : ℤ = get_or c.args.w.now (c.loop-i.i - 1) (pos 0) in
     c.size-s.ensures ∙ ap nat_abs (element_back e c.e-1.given) in
     let bounds : (1 ≤ c.size-s.result) × (c.size-s.result ≤ length c.args.w.now) =
-    let pre = c.requires in 
+    let pre = c.requires in
     size_bounds c.loop-i.invariant c.loop-i-test.true pre.w_len_bound pre.window_of (size_of) in
-    let pre = c.requires in 
+    let pre = c.requires in
     let b = bounds in (
       b.0,
       omega (arith, b.1, pre.w_len_bound),
@@ -45,7 +45,7 @@ with_size-behind-requires c =
     let e : ℤ = get_or c.args.w.now (c.loop-i.i - 1) (pos 0) in
     c.size-s.ensures ∙ ap nat_abs (element_back e c.e-1.given) in
     let bounds : (1 ≤ c.size-s.result) × (c.size-s.result ≤ length c.args.w.now) =
-    let pre = c.requires in 
+    let pre = c.requires in
     size_bounds c.loop-i.invariant c.loop-i-test.true pre.w_len_bound pre.window_of (size_of) in
     let b = bounds in (b.0, omega (arith, b.1, c.requires.w_len_bound))
 
@@ -59,7 +59,7 @@ overflow_add-pairs c =
     let sign_of : c.is_negative.result ≡ negative (get_or c.args.w.now (c.loop-i.i - 1) (pos 0)) =
     let e : ℤ = get_or c.args.w.now (c.loop-i.i - 1) (pos 0) in
     c.is_negative.ensures ∙ ap negative (element_back e c.e-1.given) in
-    let pre = c.requires in 
+    let pre = c.requires in
     let fits = pairs_fit c.loop-i.invariant c.loop-i-test.true pre.w_len_bound pre.window_of (size_of) c.larger_behind-larger.ensures
     (sign_of) c.if-is_negative.true in
     record { fits = omega (arith, fits) }
@@ -71,7 +71,7 @@ overflow_sub-negative_sum_pairs c =
     let e : ℤ = get_or c.args.w.now (c.loop-i.i - 1) (pos 0) in
     c.size-s.ensures ∙ ap nat_abs (element_back e c.e-1.given) in
     let bounds : (1 ≤ c.size-s.result) × (c.size-s.result ≤ length c.args.w.now) =
-    let pre = c.requires in 
+    let pre = c.requires in
     size_bounds c.loop-i.invariant c.loop-i-test.true pre.w_len_bound pre.window_of (size_of) in
     (bounds).1
 
@@ -83,7 +83,7 @@ overflow_add-negative_sum_pairs c =
     c.size-s.ensures ∙ ap nat_abs (element_back e c.e-1.given) in
     -- the sums over the entries behind
     let small : let sums = c.loop-i in (sums.negative_sum_pairs ≤ 4096) × (sums.negatives ≤ 64) =
-    let pre = c.requires in 
+    let pre = c.requires in
     sums_fit c.loop-i.invariant c.loop-i-test.true pre.w_len_bound pre.window_of (size_of) in
     record { fits = omega (arith, small, c.requires.w_len_bound) }
 
@@ -95,7 +95,7 @@ overflow_add-negatives c =
     c.size-s.ensures ∙ ap nat_abs (element_back e c.e-1.given) in
     -- the sums over the entries behind
     let small : let sums = c.loop-i in (sums.negative_sum_pairs ≤ 4096) × (sums.negatives ≤ 64) =
-    let pre = c.requires in 
+    let pre = c.requires in
     sums_fit c.loop-i.invariant c.loop-i-test.true pre.w_len_bound pre.window_of (size_of) in
     record { fits = omega (arith, small) }
 
@@ -109,7 +109,7 @@ loop-i-preserved-then-is_negative c =
     let sign_of : c.is_negative.result ≡ negative (get_or c.args.w.now (c.loop-i.i - 1) (pos 0)) =
     let e : ℤ = get_or c.args.w.now (c.loop-i.i - 1) (pos 0) in
     c.is_negative.ensures ∙ ap negative (element_back e c.e-1.given) in
-    let pre = c.requires in 
+    let pre = c.requires in
     rw c.with_size-behind.ensures
     (gone_negative c.loop-i.invariant c.loop-i-test.true pre.w_len_bound pre.window_of (size_of) c.larger_behind-larger.ensures
     (sign_of) c.if-is_negative.true)
@@ -124,7 +124,7 @@ overflow_sub-pairs-else-is_negative c =
     let sign_of : c.is_negative.result ≡ negative (get_or c.args.w.now (c.loop-i.i - 1) (pos 0)) =
     let e : ℤ = get_or c.args.w.now (c.loop-i.i - 1) (pos 0) in
     c.is_negative.ensures ∙ ap negative (element_back e c.e-1.given) in
-    let pre = c.requires in 
+    let pre = c.requires in
     left c.loop-i.invariant c.loop-i-test.true pre.w_len_bound pre.window_of (size_of) c.larger_behind-larger.ensures
     (sign_of) c.if-is_negative.false
 
@@ -138,12 +138,12 @@ loop-i-preserved c =
     let sign_of : c.is_negative.result ≡ negative (get_or c.args.w.now (c.loop-i.i - 1) (pos 0)) =
     let e : ℤ = get_or c.args.w.now (c.loop-i.i - 1) (pos 0) in
     c.is_negative.ensures ∙ ap negative (element_back e c.e-1.given) in
-    let pre = c.requires in 
+    let pre = c.requires in
     rw c.with_size-behind.ensures
     (gone_positive c.loop-i.invariant c.loop-i-test.true pre.w_len_bound pre.window_of (size_of) c.larger_behind-larger.ensures
     (sign_of) c.if-is_negative.false)
 
 pub returns : goal.returns
 returns c =
-    let pre = c.requires in 
+    let pre = c.requires in
     parts c.loop-i.invariant (omega (arith, c.loop-i-test.false)) pre.w_len_bound pre.window_of

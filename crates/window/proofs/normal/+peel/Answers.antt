@@ -1,9 +1,7 @@
 -- `normal::peel` writes the levels above, where there are any, and then the block of its level.
-use mathlib.Core.Path.{◌≡◌, ap, ◌∙◌}
 use Prim.Native.Nat.{◌-◌, ◌<◌}
 use native.Mathlib.Omega.{arith}
-use lib.ListN.{length, get_or}
-use lib.Seq.{length-sets}
+use lib.ListN.{get_or}
 use Rattle.coxeter.specs.Kinds.{kind_of}
 use Rattle.coxeter.proofs.KindLaws.{kind_of-one}
 use Rattle.coxeter.proofs.PeelingByPlaces.{Place, last_level}

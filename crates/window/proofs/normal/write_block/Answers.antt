@@ -25,7 +25,7 @@ returns-then-j-m c =
 pub write_turned-requires : goal.write_turned-requires
 write_turned-requires c =
     let high = c.if-j-m.false in
-    let pre = c.requires in 
+    let pre = c.requires in
     record { ranked = (pre.ranked.0, (λ e. omega (arith, pre.ranked.2 e)), high, pre.ranked.1); j_in_bounds = pre.j_in_bounds }
 
 pub returns : goal.returns

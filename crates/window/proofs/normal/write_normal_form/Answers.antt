@@ -8,7 +8,7 @@ use Rattle.window.proofs.normal.write_normal_form.Goals as goal
 
 pub set_places-requires : goal.set_places-requires
 set_places-requires c =
-    let pre = c.requires in 
+    let pre = c.requires in
     record { rank_of = pre.rank_of; window_of = pre.window_of; places_len = c.places_64-places.ensures }
 
 pub all_positions-requires : goal.all_positions-requires
@@ -18,7 +18,7 @@ all_positions-requires c =
 
 pub peel-requires : goal.peel-requires
 peel-requires c =
-    let pre = c.requires in 
+    let pre = c.requires in
     let w = c.args.w.now in
     let p = c.set_places.ensures in
     let places = c.set_places.new.places in
@@ -26,5 +26,5 @@ peel-requires c =
 
 pub returns : goal.returns
 returns c =
-    let pre = c.requires in 
+    let pre = c.requires in
     first_written _ _ pre.rank_of _ pre.window_of _ c.set_places.ensures c.all_positions.ensures _ pre.w_in_bounds c.peel.ensures

@@ -48,5 +48,5 @@ loop-i-preserved c =
 
 pub returns : goal.returns
 returns c =
-    let pre = c.requires in 
+    let pre = c.requires in
     sym (scatter_end _ _ _ _ c.loop-i-test.false) ∙ sym c.loop-i.invariant.2 ∙ scatter-written _ _ _ _ pre.window_of pre.w_in_bounds

@@ -7,7 +7,7 @@ use Rattle.window.proofs.product.Entries.{image_asks, product_step, product_end,
 use Rattle.window.proofs.product.product_into.Goals as goal
 
 pub image-requires : goal.image-requires
-image-requires c =    let pre = c.requires in 
+image-requires c = let pre = c.requires in
     let h = image_asks _ _ _ (rank_accepted _ _ pre.rank_of).1 pre.window_of pre.window_of_2 c.loop-i-test.true c.image-arg-1.given in
     record { e_value = h.0; bound = h.1.0; e_in_bounds = h.1.1.0; e_bound = h.1.1.1 }
 

@@ -1,6 +1,5 @@
 -- What `search` leaves open of the proof of `product::same_fronts`.
 use mathlib.Core.Path.{refl, sym, ◌∙◌}
-use mathlib.Core.Logic.{⊎_elim}
 use Prim.Native.Nat.{zero-le}
 use native.Mathlib.Omega.{arith}
 use Rattle.window.proofs.product.Entries.{same_differ, same_agree, same_end}

@@ -12,7 +12,7 @@ use Rattle.window.proofs.shown.crossings_of_shown.Goals as goal
 
 pub show_front-requires : goal.show_front-requires
 show_front-requires c =
-    let pre = c.requires in 
+    let pre = c.requires in
     record { rank_of = pre.rank_of; m_value = pre.m_value; word_of = pre.word_of; m_in_bounds = room _ _ pre.rank_of pre.m_value c.entries_64-work.result c.entries_64-work.ensures }
 
 pub slice_bounds-work-end : goal.slice_bounds-work-end
@@ -20,7 +20,7 @@ slice_bounds-work-end c =
     -- what the work window holds after the call
     let held : let a = c.args in
     WindowFront a.kind a.rank a.m (window (kind_of a.kind) a.rank a.word.now) c.show_front.new.out =
-    let pre = c.requires in 
+    let pre = c.requires in
     front-written _ _ pre.rank_of pre.m_value _ _ (window_passes _ _ _) c.entries_64-work.ensures c.show_front.ensures in
     (held).fits
 
@@ -29,7 +29,7 @@ slice_bounds-crossings_of-end c =
     -- what the work window holds after the call
     let held : let a = c.args in
     WindowFront a.kind a.rank a.m (window (kind_of a.kind) a.rank a.word.now) c.show_front.new.out =
-    let pre = c.requires in 
+    let pre = c.requires in
     front-written _ _ pre.rank_of pre.m_value _ _ (window_passes _ _ _) c.entries_64-work.ensures c.show_front.ensures in
     (held).size
 
@@ -38,7 +38,7 @@ crossings_of-requires c =
     -- what the work window holds after the call
     let held : let a = c.args in
     WindowFront a.kind a.rank a.m (window (kind_of a.kind) a.rank a.word.now) c.show_front.new.out =
-    let pre = c.requires in 
+    let pre = c.requires in
     front-written _ _ pre.rank_of pre.m_value _ _ (window_passes _ _ _) c.entries_64-work.ensures c.show_front.ensures in
     record { n_bound = lanes_le _ _ _ c.requires.rank_of refl; window_of = (held).passes }
 
@@ -47,6 +47,6 @@ returns c =
     -- what the work window holds after the call
     let held : let a = c.args in
     WindowFront a.kind a.rank a.m (window (kind_of a.kind) a.rank a.word.now) c.show_front.new.out =
-    let pre = c.requires in 
+    let pre = c.requires in
     front-written _ _ pre.rank_of pre.m_value _ _ (window_passes _ _ _) c.entries_64-work.ensures c.show_front.ensures in
     c.crossings_of.ensures ∙ ap (counted_of 0) (ap (crossings _) (held).is)

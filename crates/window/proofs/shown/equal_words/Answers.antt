@@ -6,7 +6,7 @@ use Rattle.window.proofs.shown.equal_words.Goals as goal
 
 pub same_presets-requires : goal.same_presets-requires
 same_presets-requires c =
-    let pre = c.requires in 
+    let pre = c.requires in
     record { rank_of = (pre.rank_of, pre.m_value, pre.word_of); rank_of_2 = (pre.rank_of, pre.m_value, pre.word_of_2) }
 
 pub returns : goal.returns

@@ -12,7 +12,7 @@ use Rattle.window.proofs.shown.same_presets.Goals as goal
 
 pub returns-then-m-l : goal.returns-then-m-l
 returns-then-m-l c =
-    let pre = c.requires in 
+    let pre = c.requires in
     lanes-differ _ _ _ _ _ _ pre.rank_of.1 pre.rank_of_2.1 c.if-m-l.true
 
 pub show_front-requires : goal.show_front-requires
@@ -50,6 +50,6 @@ returns c =
     WindowFront a.kind_b a.rank_b a.m (window (kind_of a.kind_b) a.rank_b a.b.now) c.show_front-2.new.out =
     let pre = c.requires.rank_of_2 in
     front-written _ _ pre.0 (c.if-m-l.false ∙ pre.1) _ _ (window_passes _ _ _) c.entries_64-second.ensures c.show_front-2.ensures in
-    let pre = c.requires in 
+    let pre = c.requires in
     same_lanes _ _ _ _ _ _ (sym pre.rank_of.1 ∙ c.if-m-l.false ∙ pre.rank_of_2.1)
     (c.same_fronts.ensures ∙ ap₂ same_window (first).is (second).is)

@@ -13,7 +13,7 @@ slice_bounds-show-end-2 c = sym (length-take-le _ _ (search rules))
 
 pub show-requires : goal.show-requires
 show-requires c =
-    let pre = c.requires in 
+    let pre = c.requires in
     record { ranked = rank_accepted _ _ pre.rank_of; w_len = length-take-le _ _ (search rules) ∙ pre.m_value; word_of = pre.word_of }
 
 pub returns : goal.returns

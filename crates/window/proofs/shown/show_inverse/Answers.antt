@@ -8,7 +8,7 @@ use Rattle.window.proofs.shown.show_inverse.Goals as goal
 
 pub show_front-requires : goal.show_front-requires
 show_front-requires c =
-    let pre = c.requires in 
+    let pre = c.requires in
     record { rank_of = pre.rank_of; m_value = pre.m_value; word_of = pre.word_of; m_in_bounds = room _ _ pre.rank_of pre.m_value c.entries_64-work.result c.entries_64-work.ensures }
 
 pub slice_bounds-work-end : goal.slice_bounds-work-end
@@ -16,7 +16,7 @@ slice_bounds-work-end c =
     -- what the work window holds after the call
     let held : let a = c.args in
     WindowFront a.kind a.rank a.m (window (kind_of a.kind) a.rank a.word.now) c.show_front.new.out =
-    let pre = c.requires in 
+    let pre = c.requires in
     front-written _ _ pre.rank_of pre.m_value _ _ (window_passes _ _ _) c.entries_64-work.ensures c.show_front.ensures in
     (held).fits
 
@@ -25,7 +25,7 @@ slice_bounds-inverse_into-end c =
     -- what the work window holds after the call
     let held : let a = c.args in
     WindowFront a.kind a.rank a.m (window (kind_of a.kind) a.rank a.word.now) c.show_front.new.out =
-    let pre = c.requires in 
+    let pre = c.requires in
     front-written _ _ pre.rank_of pre.m_value _ _ (window_passes _ _ _) c.entries_64-work.ensures c.show_front.ensures in
     (held).size
 
@@ -34,7 +34,7 @@ inverse_into-requires c =
     -- what the work window holds after the call
     let held : let a = c.args in
     WindowFront a.kind a.rank a.m (window (kind_of a.kind) a.rank a.word.now) c.show_front.new.out =
-    let pre = c.requires in 
+    let pre = c.requires in
     front-written _ _ pre.rank_of pre.m_value _ _ (window_passes _ _ _) c.entries_64-work.ensures c.show_front.ensures in
     let front = held in
     record { rank_of = c.requires.rank_of; window_of = front.passes; w_in_bounds = rw (← front.size) c.requires.m_in_bounds }
@@ -44,6 +44,6 @@ returns c =
     -- what the work window holds after the call
     let held : let a = c.args in
     WindowFront a.kind a.rank a.m (window (kind_of a.kind) a.rank a.word.now) c.show_front.new.out =
-    let pre = c.requires in 
+    let pre = c.requires in
     front-written _ _ pre.rank_of pre.m_value _ _ (window_passes _ _ _) c.entries_64-work.ensures c.show_front.ensures in
     rw (held).is at c.inverse_into.ensures
