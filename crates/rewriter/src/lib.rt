@@ -1,5 +1,7 @@
 // The rewriter layer: one rewrite at a named place, and the rewriting to its end (I19 to I21 of the specification).
 // No public function has a `requires`.
+#![tactic(auto)]
+
 ghost use Rattle.std.specs.Prelude.{◌≡◌};
 ghost use Rattle.rules.specs.Calls.{Rewrote, single};
 ghost use Rattle.traces.specs.Traces.{TraceYields, rewriting_to_end, number_of_steps};

@@ -32,7 +32,7 @@ module _ (w word : List ℕ) (q : ℕ) (h : q < length w) where
       ∙ get_or-append (take t w) _ 0 (t - 1) (rw (length-take-le t w (omega arith)) (omega arith))
       ∙ get_or-take t w (t - 1) 0 (omega arith)
 
-  put_next : (t : ℕ) → 0 < t → t ≤ q → word ≡ put w t q (get_or w t 0) → set word t (get_or word (t - 1) 0) ≡ put w (t - 1) q (get_or w (t - 1) 0)
+  pub put_next : (t : ℕ) → 0 < t → t ≤ q → word ≡ put w t q (get_or w t 0) → set word t (get_or word (t - 1) 0) ≡ put w (t - 1) q (get_or w (t - 1) 0)
   put_next zero o l e = absurd (omega arith)
   put_next (suc t) o l e =
       let z : suc t - 1 ≡ t = omega arith in

@@ -18,7 +18,7 @@ use Rattle.coxeter.specs.Kinds.{Kind, pick, least}
 use Rattle.coxeter.specs.Checks.{wrong_letter}
 use Rattle.coxeter.specs.NormalForm.{block, levels, last_index}
 use Rattle.coxeter.proofs.LetterLaws.{letter_within_cons, letter_at}
-use Rattle.rules.specs.Rules.{Rule, rules, Irreducible}
+use Rattle.rules.specs.Rules.{rules, Irreducible}
 use Rattle.rules.proofs.Letters.{block_one}
 use Rattle.rules.proofs.BlockWords.{block-short}
 use Rattle.rules.proofs.Scan.{next_index, fork, family_at, shown_index, first_letter, walk, scan, Along, start, further, scan-block}

@@ -6,14 +6,6 @@ use Rattle.rewriter.proofs.carrying.Passing.{ready_inside}
 use Rattle.rewriter.proofs.carrying.Inserting.{moved_carried, moved_again}
 use borrow.Author.Rules.{rules}
 use Rattle.rewriter.proofs.carrying.insert.Goals as goal
-use Rattle.rewriter.proofs.carrying.insert.Goals.{After-pass-at, At-loop-q, Start}
-
--- stages on the way: where the call began, and where a turn begins
-abbrev start : At-loop-q → Start
-start c = c.before.before.before.before.before.before
-
-abbrev begun : After-pass-at → At-loop-q
-begun c = c.before.before.before.before.before.before
 
 pub overflow_sub-q : goal.overflow_sub-q
 overflow_sub-q c =
@@ -31,7 +23,7 @@ loop-q-init c =
 
 pub pass-at-requires : goal.pass-at-requires
 pass-at-requires c =
-    carried_ready (c.loop-q.invariant.moved.0 (omega arith)).1 (start c).requires
+    carried_ready (c.loop-q.invariant.moved.0 (omega arith)).1 c.requires
 
 pub overflow_sub-q-in-loop-q : goal.overflow_sub-q-in-loop-q
 overflow_sub-q-in-loop-q c =
@@ -39,15 +31,13 @@ overflow_sub-q-in-loop-q c =
 
 pub overflow_add-steps : goal.overflow_add-steps
 overflow_add-steps c =
-    let l = begun c in
-    let a = carried_ready (l.loop.inv.moved.0 (omega arith)).1 (start l).pre in
+    let a = carried_ready (c.loop-q.invariant.moved.0 (omega arith)).1 c.requires in
     let b = carried_ready c.pass-at.ensures.1 a in
     omega (arith, b.room)
 
 pub turn-made-requires : goal.turn-made-requires
 turn-made-requires c =
-    let l = begun c in
-    let a = carried_ready (l.loop.inv.moved.0 (omega arith)).1 (start l).pre in
+    let a = carried_ready (c.loop-q.invariant.moved.0 (omega arith)).1 c.requires in
     record { ready = carried_ready c.pass-at.ensures.1 a; q_value = c.pass-at.ensures.2 }
 
 pub loop-q-smaller : goal.loop-q-smaller
@@ -56,7 +46,7 @@ loop-q-smaller c =
 
 pub loop-q-preserved : goal.loop-q-preserved
 loop-q-preserved c =
-    let d = moved_again (begun c).loop.invariant.moved (omega arith) c.pass-at.ensures.1 c.turn-made.ensures.size_value in
+    let d = moved_again c.loop-q.invariant.moved (omega arith) c.pass-at.ensures.1 c.turn-made.ensures.size_value in
     record { families_size = search rules; places_size = search rules; lengths_size = search rules; word_size = search rules; moved = d }
 
 pub shape_of-families : goal.shape_of-families

@@ -7,5 +7,5 @@ use Rattle.rewriter.proofs.carrying.note.Goals as goal
 
 pub returns-else-s-families : goal.returns-else-s-families
 returns-else-s-families c =
-    let a = c.requires in 
+    let a = c.requires in
     (sym (set_out _ _ _ c.if-s-families.false), sym (set_out _ _ _ (omega arith)), sym (set_out _ _ _ (omega arith)))

@@ -54,8 +54,7 @@ shape_of-lengths c = stores_size _ _ _ _ c.loop-i.invariant.lengths_are
 pub returns : goal.returns
 returns c =
     let i = c.loop-i.invariant in
-    let room = c.room_for-end.ensures in
-    (
+    let room = c.room_for-end.ensures in (
       stores_end _ _ _ _ i.families_are _ refl room i.count_le c.loop-i-test.false,
       stores_end _ _ _ _ i.places_are _ (sym c.requires.places_len.0) room i.count_le c.loop-i-test.false,
       stores_end _ _ _ _ i.lengths_are _ (sym c.requires.places_len.1) room i.count_le c.loop-i-test.false,

@@ -52,8 +52,7 @@ shape_of-word-else-commutes c =
 
 pub returns-else-commutes : goal.returns-else-commutes
 returns-else-commutes c =
-    let i = c.loop-t.invariant in
-    (
+    let i = c.loop-t.invariant in (
       i.place_le,
       put_set _ _ _ c.requires.2 _ _ i.place_le i.moved,
       i.commute,

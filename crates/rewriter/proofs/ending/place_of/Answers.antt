@@ -8,7 +8,7 @@ use Rattle.rewriter.proofs.ending.Rising.{stopped_rising}
 use Rattle.rewriter.proofs.ending.place_of.Goals as goal
 
 pub returns-then-l-x : goal.returns-then-l-x
-returns-then-l-x c = begun_rising _ _ _ _ c.floor_of-floor.ensures refl refl c.if-l-x.true c.start_of_lem.ensures
+returns-then-l-x c = begun_rising _ _ _ _ c.floor_of-floor.ensures refl refl c.if-l-x.true c.start_of.ensures
 
 pub overflow_cast-back : goal.overflow_cast-back
 overflow_cast-back c =

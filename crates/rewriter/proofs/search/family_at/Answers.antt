@@ -1,9 +1,9 @@
 -- `search::family_at` is the family of a letter that leaves the way of a block, by its tests.
 -- Assumes nothing.
-use mathlib.Core.Logic.{⊎_elim}
 use borrow.Author.Tests.{eq-eqb, ne_eqb, lt-ltb, le-ltb}
 use Rattle.rules.proofs.Scan.{family_at}
 use Rattle.rewriter.proofs.search.family_at.Goals as goal
+use Rattle.rewriter.proofs.search.family_at.Goals.{else-i-fork-via-then-i-fork+else-j-rank, else-i-fork-via-else-i-fork}
 
 pub returns-then-x-i : goal.returns-then-x-i
 unfolding family_at
@@ -28,11 +28,13 @@ returns-then-x-i-2 c = rw (ne_eqb _ _ c.if-j-i.false, ne_eqb _ _ c.if-i-j.false,
 pub returns-then-j-rank : goal.returns-then-j-rank
 unfolding family_at
 returns-then-j-rank c =
-    rw (ne_eqb _ _ c.if-j-i.false, ne_eqb _ _ c.if-i-j.false, eq-eqb _ _ c.if-x-i-2.false, eq-eqb _ _ c.if-i-fork.true)
-    (rw c.if-j-rank.true)
+    rw (ne_eqb _ _ c.if-j-i.false, ne_eqb _ _ c.if-i-j.false, eq-eqb _ _ c.if-x-i-2.false, eq-eqb _ _ c.if-i-fork.true, eq-eqb _ _ c.if-j-rank.true)
 
 pub returns : goal.returns
 unfolding family_at
 returns c =
     rw (ne_eqb _ _ c.if-j-i.false, ne_eqb _ _ c.if-i-j.false, eq-eqb _ _ c.if-x-i-2.false)
-    (⊎_elim (λ w. rw (eq-eqb _ _ w.0.taken, w.1.left)) (λ w. rw (ne_eqb _ _ w.left)) c.if-i-fork.branch)
+    (elim c.else-i-fork.branch [
+      | else-i-fork-via-then-i-fork+else-j-rank w ↦ rw (eq-eqb _ _ w.if-i-fork.true, ne_eqb _ _ w.if-j-rank.false)
+      | else-i-fork-via-else-i-fork w ↦ rw (ne_eqb _ _ w.if-i-fork.false)
+    ])

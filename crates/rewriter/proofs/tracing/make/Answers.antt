@@ -33,9 +33,9 @@ insert-read-requires c =
 
 pub loop-i-preserved : goal.loop-i-preserved
 loop-i-preserved c =
-    let k = c.insert-read.auto.1.1.1.1 in
+    let k = c.insert-read.auto in
     making_next _ _ _ _ c.requires.accepted_word c.loop-i.invariant c.loop-i-test.true c.requires.word_in_bounds
-    c.insert-read.ensures k.1.1.1.0 k.0 k.1.0 k.1.1.0
+    c.insert-read.ensures k.word k.families k.places k.lengths
 
 pub shape_of-families : goal.shape_of-families
 shape_of-families c =

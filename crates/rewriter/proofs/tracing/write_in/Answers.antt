@@ -33,6 +33,6 @@ copy-requires c =
 
 pub returns : goal.returns
 returns c =
-    let p = c.requires in 
+    let p = c.requires in
     let l = lists-written _ _ _ _ c.make-made.ensures p.steps_value p.steps_in_bounds.0 p.steps_in_bounds.1 p.steps_in_bounds.2 in
     (l.0, l.1, l.2, out_written c.make-made.ensures _ p.word_in_bounds c.copy.ensures)
