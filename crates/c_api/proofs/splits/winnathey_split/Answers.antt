@@ -1,0 +1,10 @@
+-- `splits::winnathey_split` hands the bytes of kind and rank on.
+-- Assumes nothing.
+use Rattle.c_api.proofs.Bytes.{as_bytes_back}
+use Rattle.c_api.proofs.SplitNumbers.{splitting_listed_refusable}
+use Rattle.c_api.proofs.splits.winnathey_split.Goals as goal
+
+pub returns : goal.returns
+returns c =
+    as_bytes_back (splitting_listed_refusable _ _ _ _ _) _ _ _ _ c.byte.ensures c.byte-2.ensures c.split.type_inv
+    c.split.ensures

@@ -1,0 +1,17 @@
+-- `traces::counted` goes by the cases of the answer.
+-- Assumes nothing.
+use mathlib.Core.Path.{◌∙◌}
+use Rattle.c_api.specs.Calls.{number_of}
+use Rattle.c_api.proofs.Lengths.{i64_back}
+use Rattle.c_api.proofs.tracing.counted.Goals as goal
+
+pub steps_number-requires : goal.steps_number-requires
+steps_number-requires c = c.requires _ c.in-Length.is
+
+pub returns-in-Length : goal.returns-in-Length
+unfolding number_of
+returns-in-Length c = rw c.in-Length.is (i64_back _ c.steps_number.type_inv ∙ c.steps_number.ensures)
+
+pub returns-in-Refused : goal.returns-in-Refused
+unfolding number_of
+returns-in-Refused c = rw c.in-Refused.is (i64_back _ c.refusal_number.type_inv ∙ c.refusal_number.ensures)
