@@ -7,8 +7,7 @@ use crate::numbers::{byte, number};
 
 // The version: 1,000,000 for each major version, 1,000 for each minor one and 1 for each patch. The file VERSION
 // has it as text.
-#[unsafe(no_mangle)]
-pub extern "C" fn winnathey_version() -> i64
+pub fn winnathey_version() -> i64
     ensures { result ≡ version }
 {
     1_000_000
@@ -16,8 +15,7 @@ pub extern "C" fn winnathey_version() -> i64
 
 // The message of a refusal, written to the front of `out`. Returns its length, which is 0 for a number that is no
 // refusal. Refusal 14.
-#[unsafe(no_mangle)]
-pub extern "C" fn winnathey_refusal_message(refusal: u32, out: &mut [u8]) -> i64
+pub fn winnathey_refusal_message(refusal: u32, out: &mut [u8]) -> i64
     ensures { (result, out.new) ≡ numbered (refusal_message refusal out.old) }
 {
     number(messages::refusal_message(byte(refusal), out))

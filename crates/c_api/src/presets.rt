@@ -68,70 +68,56 @@ fn convert(edition: Edition, book: &[u8], out: &mut [u8]) -> i64
 }
 
 // I25, of the first edition.
-#[unsafe(no_mangle)]
-pub extern "C" fn winnathey_book_check(book: &[u8]) -> i64
+pub fn winnathey_book_check(book: &[u8]) -> i64
     ensures { result ≡ opened_number (checked_book First book.now) }
 {
     check_book(Edition::First, book)
 }
 
 // I26, of the first edition.
-#[unsafe(no_mangle)]
-pub extern "C" fn winnathey_preset(book: &[u8], number: usize, fields: &mut [u64]) -> i64
+pub fn winnathey_preset(book: &[u8], number: usize, fields: &mut [u64]) -> i64
     ensures { (result, fields.new) ≡ listed (preset_numbers (checked_preset First book.now number)) fields.old }
 {
     check_preset(Edition::First, book, number, fields)
 }
 
 // I30, of the first edition.
-#[unsafe(no_mangle)]
-pub extern "C" fn winnathey_presets(book: &[u8], first: usize, fields: &mut [u64]) -> i64
+pub fn winnathey_presets(book: &[u8], first: usize, fields: &mut [u64]) -> i64
     ensures { (result, fields.new) ≡ numbered (reading_presets First book.now first fields.old) }
 {
     read_presets(Edition::First, book, first, fields)
 }
 
 // I28, of the first edition.
-#[unsafe(no_mangle)]
-pub extern "C" fn winnathey_append(
-    book: &[u8],
-    kind: u32,
-    rank: u32,
-    word: &[u8],
-    out: &mut [u8],
-) -> i64
+pub fn winnathey_append(book: &[u8], kind: u32, rank: u32, word: &[u8], out: &mut [u8]) -> i64
     ensures { (result, out.new) ≡ numbered (appending First book.now kind rank word.now out.old) }
 {
     append(Edition::First, book, kind, rank, word, out)
 }
 
 // I25, of the second edition.
-#[unsafe(no_mangle)]
-pub extern "C" fn winnathey_second_book_check(book: &[u8]) -> i64
+pub fn winnathey_second_book_check(book: &[u8]) -> i64
     ensures { result ≡ opened_number (checked_book Second book.now) }
 {
     check_book(Edition::Second, book)
 }
 
 // I26, of the second edition.
-#[unsafe(no_mangle)]
-pub extern "C" fn winnathey_second_preset(book: &[u8], number: usize, fields: &mut [u64]) -> i64
+pub fn winnathey_second_preset(book: &[u8], number: usize, fields: &mut [u64]) -> i64
     ensures { (result, fields.new) ≡ listed (preset_numbers (checked_preset Second book.now number)) fields.old }
 {
     check_preset(Edition::Second, book, number, fields)
 }
 
 // I30, of the second edition.
-#[unsafe(no_mangle)]
-pub extern "C" fn winnathey_second_presets(book: &[u8], first: usize, fields: &mut [u64]) -> i64
+pub fn winnathey_second_presets(book: &[u8], first: usize, fields: &mut [u64]) -> i64
     ensures { (result, fields.new) ≡ numbered (reading_presets Second book.now first fields.old) }
 {
     read_presets(Edition::Second, book, first, fields)
 }
 
 // I28, of the second edition.
-#[unsafe(no_mangle)]
-pub extern "C" fn winnathey_second_append(
+pub fn winnathey_second_append(
     book: &[u8],
     kind: u32,
     rank: u32,
@@ -144,16 +130,14 @@ pub extern "C" fn winnathey_second_append(
 }
 
 // I29, of a book of the first edition.
-#[unsafe(no_mangle)]
-pub extern "C" fn winnathey_to_second(book: &[u8], out: &mut [u8]) -> i64
+pub fn winnathey_to_second(book: &[u8], out: &mut [u8]) -> i64
     ensures { (result, out.new) ≡ numbered (converting First book.now out.old) }
 {
     convert(Edition::First, book, out)
 }
 
 // I29, of a book of the second edition.
-#[unsafe(no_mangle)]
-pub extern "C" fn winnathey_to_first(book: &[u8], out: &mut [u8]) -> i64
+pub fn winnathey_to_first(book: &[u8], out: &mut [u8]) -> i64
     ensures { (result, out.new) ≡ numbered (converting Second book.now out.old) }
 {
     convert(Edition::Second, book, out)

@@ -10,8 +10,7 @@ use descents::{Fallback, fallback_places};
 // I18, IC4: whether a simpler word's window can be reached by removing letters from the normal form of the present
 // word. The places of letters to keep, which count from 0 and rise, go to the front of `places`. Returns how many
 // are kept, or -101 if the verdict is no. Refusals 5 to 8, and 14 only if there is a fallback.
-#[unsafe(no_mangle)]
-pub extern "C" fn winnathey_fallback(
+pub fn winnathey_fallback(
     kind: u32,
     rank: u32,
     present: &[u8],
@@ -30,8 +29,7 @@ pub extern "C" fn winnathey_fallback(
 // I23: the normal form of the word over the allowed steps that leads from one window to another, written to the
 // front of `out`. Bit 0 of `allowed` stands for step 1. Returns its length. Refusals 5 and 6, 16, 9 to 11 for each
 // window, 19 if no word over the allowed steps leads there, 14.
-#[unsafe(no_mangle)]
-pub extern "C" fn winnathey_between(
+pub fn winnathey_between(
     kind: u32,
     rank: u32,
     allowed: u64,

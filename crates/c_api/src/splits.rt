@@ -39,8 +39,7 @@ fn split(
 // second's window has no shortest word that begins with one. Each is a normal form, written to the front of its
 // output, and the length of each goes to the first two places of `lengths`. Returns the sum of the two lengths.
 // Refusals 5, 6, 16, 7 and 8, then 14 for any of the three.
-#[unsafe(no_mangle)]
-pub extern "C" fn winnathey_split(
+pub fn winnathey_split(
     kind: u32,
     rank: u32,
     allowed: u64,

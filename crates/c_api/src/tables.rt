@@ -40,8 +40,7 @@ fn table(
 // `counts`; the longest window, written to that of `window`; its normal form, written to that of `form`. The length
 // of each goes to the first three places of `lengths`. Returns the greatest length. Refusals 5, 6 and 20, then 14
 // for any of the four.
-#[unsafe(no_mangle)]
-pub extern "C" fn winnathey_delay_table(
+pub fn winnathey_delay_table(
     kind: u32,
     rank: u32,
     counts: &mut [u64],

@@ -28,8 +28,7 @@ fn counted(answer: Answer) -> i64
 
 // I21: how many steps `winnathey_rewrite_to_end` takes: so many places each of its lists must have. For a word of L
 // letters that is at most L (L - 1) / 2 (T25). Refusals 5 to 8.
-#[unsafe(no_mangle)]
-pub extern "C" fn winnathey_rewrite_steps(kind: u32, rank: u32, word: &[u8]) -> i64
+pub fn winnathey_rewrite_steps(kind: u32, rank: u32, word: &[u8]) -> i64
     ensures { result ≡ number_of (number_of_steps kind rank word.now) }
 {
     counted(rewrite_steps(byte(kind), byte(rank), word))
@@ -96,8 +95,7 @@ fn to_end(
 // the length left of each step go to the fronts of the three lists, the final word, which is the normal form, to
 // that of `out`, and its length to the first place of `written`. Returns the number of steps. Refusals 5 to 8, 15
 // for a list with too few places, and 14 for `out` or `written`.
-#[unsafe(no_mangle)]
-pub extern "C" fn winnathey_rewrite_to_end(
+pub fn winnathey_rewrite_to_end(
     kind: u32,
     rank: u32,
     word: &[u8],

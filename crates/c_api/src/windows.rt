@@ -6,21 +6,14 @@ ghost use Rattle.c_api.specs.Calls.{numbered, number_of, crossing_numbers, liste
 use crate::numbers::{byte, number, write_crossings};
 
 // I5: the normal form of a window, written to the front of `out`. Returns its length.
-#[unsafe(no_mangle)]
-pub extern "C" fn winnathey_normal_form_of_window(
-    kind: u32,
-    rank: u32,
-    window: &[i8],
-    out: &mut [u8],
-) -> i64
+pub fn winnathey_normal_form_of_window(kind: u32, rank: u32, window: &[i8], out: &mut [u8]) -> i64
     ensures { (result, out.new) ≡ numbered (normal_form_of_window kind rank window.now out.old) }
 {
     number(window::normal_form_of_window(byte(kind), byte(rank), window, out))
 }
 
 // I9: the product of two windows of one kind and rank, written to the front of `out`. Returns its length.
-#[unsafe(no_mangle)]
-pub extern "C" fn winnathey_product_of_windows(
+pub fn winnathey_product_of_windows(
     kind: u32,
     rank: u32,
     first: &[i8],
@@ -33,21 +26,14 @@ pub extern "C" fn winnathey_product_of_windows(
 }
 
 // I10: the inverse of a window, written to the front of `out`. Returns its length.
-#[unsafe(no_mangle)]
-pub extern "C" fn winnathey_inverse_of_window(
-    kind: u32,
-    rank: u32,
-    window: &[i8],
-    out: &mut [i8],
-) -> i64
+pub fn winnathey_inverse_of_window(kind: u32, rank: u32, window: &[i8], out: &mut [i8]) -> i64
     ensures { (result, out.new) ≡ numbered (inverse_of_window kind rank window.now out.old) }
 {
     number(window::inverse_of_window(byte(kind), byte(rank), window, out))
 }
 
 // I12: the length of a window's normal form.
-#[unsafe(no_mangle)]
-pub extern "C" fn winnathey_length_of_window(kind: u32, rank: u32, window: &[i8]) -> i64
+pub fn winnathey_length_of_window(kind: u32, rank: u32, window: &[i8]) -> i64
     ensures { result ≡ number_of (length_of_window kind rank window.now) }
 {
     number(window::length_of_window(byte(kind), byte(rank), window))
@@ -55,13 +41,7 @@ pub extern "C" fn winnathey_length_of_window(kind: u32, rank: u32, window: &[i8]
 
 // I14: the length of a window's normal form as its three counts: inversions, negative sum pairs and negative
 // entries go to the first three places of `counts`. Returns their total.
-#[unsafe(no_mangle)]
-pub extern "C" fn winnathey_crossings_of_window(
-    kind: u32,
-    rank: u32,
-    window: &[i8],
-    counts: &mut [u64],
-) -> i64
+pub fn winnathey_crossings_of_window(kind: u32, rank: u32, window: &[i8], counts: &mut [u64]) -> i64
     ensures { (result, counts.new) ≡ listed (crossing_numbers (crossings_of_window kind rank window.now)) counts.old }
 {
     write_crossings(

@@ -9,21 +9,14 @@ use crate::numbers::{byte, number, refusal_number, write_crossings};
 use window::{Choice, Verdict};
 
 // I4: the window of a word, written to the front of `out`. Returns the number of its entries.
-#[unsafe(no_mangle)]
-pub extern "C" fn winnathey_window_of_word(kind: u32, rank: u32, word: &[u8], out: &mut [i8]) -> i64
+pub fn winnathey_window_of_word(kind: u32, rank: u32, word: &[u8], out: &mut [i8]) -> i64
     ensures { (result, out.new) ≡ numbered (window_of_word kind rank word.now out.old) }
 {
     number(window::window_of_word(byte(kind), byte(rank), word, out))
 }
 
 // I6: the normal form of a word, written to the front of `out`. Returns its length.
-#[unsafe(no_mangle)]
-pub extern "C" fn winnathey_normal_form_of_word(
-    kind: u32,
-    rank: u32,
-    word: &[u8],
-    out: &mut [u8],
-) -> i64
+pub fn winnathey_normal_form_of_word(kind: u32, rank: u32, word: &[u8], out: &mut [u8]) -> i64
     ensures { (result, out.new) ≡ numbered (normal_form_of_word kind rank word.now out.old) }
 {
     number(window::normal_form_of_word(byte(kind), byte(rank), word, out))
@@ -31,8 +24,7 @@ pub extern "C" fn winnathey_normal_form_of_word(
 
 // I7: the product of two words of one kind and rank as a normal form, written to the front of `out`. Returns its
 // length.
-#[unsafe(no_mangle)]
-pub extern "C" fn winnathey_product_of_words(
+pub fn winnathey_product_of_words(
     kind: u32,
     rank: u32,
     first: &[u8],
@@ -45,21 +37,14 @@ pub extern "C" fn winnathey_product_of_words(
 }
 
 // I8: the inverse of a word as a normal form, written to the front of `out`. Returns its length.
-#[unsafe(no_mangle)]
-pub extern "C" fn winnathey_inverse_of_word(
-    kind: u32,
-    rank: u32,
-    word: &[u8],
-    out: &mut [u8],
-) -> i64
+pub fn winnathey_inverse_of_word(kind: u32, rank: u32, word: &[u8], out: &mut [u8]) -> i64
     ensures { (result, out.new) ≡ numbered (inverse_of_word kind rank word.now out.old) }
 {
     number(window::inverse_of_word(byte(kind), byte(rank), word, out))
 }
 
 // I11: the length of a word's normal form.
-#[unsafe(no_mangle)]
-pub extern "C" fn winnathey_length_of_word(kind: u32, rank: u32, word: &[u8]) -> i64
+pub fn winnathey_length_of_word(kind: u32, rank: u32, word: &[u8]) -> i64
     ensures { result ≡ number_of (length_of_word kind rank word.now) }
 {
     number(window::length_of_word(byte(kind), byte(rank), word))
@@ -67,13 +52,7 @@ pub extern "C" fn winnathey_length_of_word(kind: u32, rank: u32, word: &[u8]) ->
 
 // I13: the length of a word's normal form as its three counts: inversions, negative sum pairs and negative entries
 // go to the first three places of `counts`. Returns their total.
-#[unsafe(no_mangle)]
-pub extern "C" fn winnathey_crossings_of_word(
-    kind: u32,
-    rank: u32,
-    word: &[u8],
-    counts: &mut [u64],
-) -> i64
+pub fn winnathey_crossings_of_word(kind: u32, rank: u32, word: &[u8], counts: &mut [u64]) -> i64
     ensures { (result, counts.new) ≡ listed (crossing_numbers (crossings_of_word kind rank word.now)) counts.old }
 {
     write_crossings(
@@ -83,8 +62,7 @@ pub extern "C" fn winnathey_crossings_of_word(
 }
 
 // I15: whether two presets show the same window, whatever their kinds and ranks: 1 is yes, 0 is no.
-#[unsafe(no_mangle)]
-pub extern "C" fn winnathey_same(
+pub fn winnathey_same(
     kind1: u32,
     rank1: u32,
     word1: &[u8],
@@ -110,8 +88,7 @@ pub extern "C" fn winnathey_same(
 
 // I17: the better of two words of one kind and rank: 1 is the first, 2 the second. 0 if the windows differ or a
 // check refuses.
-#[unsafe(no_mangle)]
-pub extern "C" fn winnathey_better(kind: u32, rank: u32, first: &[u8], second: &[u8]) -> i64
+pub fn winnathey_better(kind: u32, rank: u32, first: &[u8], second: &[u8]) -> i64
     ensures { result ≡ choice_number (choice (hands_back kind rank first.now second.now)
         (shortlex second.now first.now)) }
 {

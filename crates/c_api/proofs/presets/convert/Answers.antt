@@ -9,5 +9,5 @@ number-requires c l e = converting_small _ _ _ l (sym c.convert.ensures.value âˆ
 
 pub returns : goal.returns
 returns c =
-    let below = c.convert.ensures in 
+    let below = c.convert.ensures in
     numbers_alike _ _ _ _ c.number.type_inv c.number.ensures (below.value, below.out_after)
