@@ -1,0 +1,38 @@
+// Calls on shortest words.
+ghost use Rattle.std.specs.Prelude.{◌≡◌};
+ghost use Rattle.shortest_words.specs.BetweenCalls.{betweenWindows};
+ghost use Rattle.c_api.specs.Calls.{numbered};
+ghost use Rattle.c_api.specs.Shortest.{FallbackNumbered};
+
+// I18, IC4: whether a simpler word's window can be reached by removing letters from the normal form of the present
+// word. The places of letters to keep, which count from 0 and rise, go to the front of `places`. Returns how many
+// are kept, or -101 if the verdict is no. Refusals 5 to 8, and 14 only if there is a fallback.
+#[unsafe(no_mangle)]
+pub extern "C" fn winnathey_fallback(
+    kind: u32,
+    rank: u32,
+    present: &[u8],
+    simpler: &[u8],
+    places: &mut [u16],
+) -> i64
+    ensures { FallbackNumbered kind rank present.now simpler.now places.old result places.new }
+{
+    c_api::shortest::winnathey_fallback(kind, rank, present, simpler, places)
+}
+
+// I23: the normal form of the word over the allowed steps that leads from one window to another, written to the
+// front of `out`. Bit 0 of `allowed` stands for step 1. Returns its length. Refusals 5 and 6, 16, 9 to 11 for each
+// window, 19 if no word over the allowed steps leads there, 14.
+#[unsafe(no_mangle)]
+pub extern "C" fn winnathey_between(
+    kind: u32,
+    rank: u32,
+    allowed: u64,
+    from: &[i8],
+    to: &[i8],
+    out: &mut [u8],
+) -> i64
+    ensures { (result, out.new) ≡ numbered (betweenWindows kind rank allowed from.now to.now out.old) }
+{
+    c_api::shortest::winnathey_between(kind, rank, allowed, from, to, out)
+}

@@ -1,0 +1,66 @@
+// Calls on windows.
+ghost use Rattle.std.specs.Prelude.{◌≡◌};
+ghost use Rattle.coxeter.specs.Calls.{productOfWindows, inverseOfWindow, normalFormOfWindow, lengthOfWindow, crossingsOfWindow};
+ghost use Rattle.c_api.specs.Calls.{numbered, number_of, crossingNumbers, listed};
+
+// I5: the normal form of a window, written to the front of `out`. Returns its length.
+#[unsafe(no_mangle)]
+pub extern "C" fn winnathey_normal_form_of_window(
+    kind: u32,
+    rank: u32,
+    window: &[i8],
+    out: &mut [u8],
+) -> i64
+    ensures { (result, out.new) ≡ numbered (normalFormOfWindow kind rank window.now out.old) }
+{
+    c_api::windows::winnathey_normal_form_of_window(kind, rank, window, out)
+}
+
+// I9: the product of two windows of one kind and rank, written to the front of `out`. Returns its length.
+#[unsafe(no_mangle)]
+pub extern "C" fn winnathey_product_of_windows(
+    kind: u32,
+    rank: u32,
+    first: &[i8],
+    second: &[i8],
+    out: &mut [i8],
+) -> i64
+    ensures { (result, out.new) ≡ numbered (productOfWindows kind rank first.now second.now out.old) }
+{
+    c_api::windows::winnathey_product_of_windows(kind, rank, first, second, out)
+}
+
+// I10: the inverse of a window, written to the front of `out`. Returns its length.
+#[unsafe(no_mangle)]
+pub extern "C" fn winnathey_inverse_of_window(
+    kind: u32,
+    rank: u32,
+    window: &[i8],
+    out: &mut [i8],
+) -> i64
+    ensures { (result, out.new) ≡ numbered (inverseOfWindow kind rank window.now out.old) }
+{
+    c_api::windows::winnathey_inverse_of_window(kind, rank, window, out)
+}
+
+// I12: the length of a window's normal form.
+#[unsafe(no_mangle)]
+pub extern "C" fn winnathey_length_of_window(kind: u32, rank: u32, window: &[i8]) -> i64
+    ensures { result ≡ number_of (lengthOfWindow kind rank window.now) }
+{
+    c_api::windows::winnathey_length_of_window(kind, rank, window)
+}
+
+// I14: the length of a window's normal form as its three counts: inversions, negative sum pairs and negative
+// entries go to the first three places of `counts`. Returns their total.
+#[unsafe(no_mangle)]
+pub extern "C" fn winnathey_crossings_of_window(
+    kind: u32,
+    rank: u32,
+    window: &[i8],
+    counts: &mut [u64],
+) -> i64
+    ensures { (result, counts.new) ≡ listed (crossingNumbers (crossingsOfWindow kind rank window.now)) counts.old }
+{
+    c_api::windows::winnathey_crossings_of_window(kind, rank, window, counts)
+}

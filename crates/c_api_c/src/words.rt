@@ -1,0 +1,102 @@
+// Calls on words.
+ghost use Rattle.std.specs.Prelude.{◌≡◌};
+ghost use Rattle.coxeter.specs.Dictionary.{shortlex};
+ghost use Rattle.coxeter.specs.Calls.{windowOfWord, normalFormOfWord, productOfWords, inverseOfWord, lengthOfWord, crossingsOfWord};
+ghost use Rattle.coxeter.specs.Calls.{presetsEqual, handsBack, choice};
+ghost use Rattle.c_api.specs.Calls.{numbered, number_of, verdictNumber, choiceNumber, crossingNumbers, listed};
+
+// I4: the window of a word, written to the front of `out`. Returns the number of its entries.
+#[unsafe(no_mangle)]
+pub extern "C" fn winnathey_window_of_word(kind: u32, rank: u32, word: &[u8], out: &mut [i8]) -> i64
+    ensures { (result, out.new) ≡ numbered (windowOfWord kind rank word.now out.old) }
+{
+    c_api::words::winnathey_window_of_word(kind, rank, word, out)
+}
+
+// I6: the normal form of a word, written to the front of `out`. Returns its length.
+#[unsafe(no_mangle)]
+pub extern "C" fn winnathey_normal_form_of_word(
+    kind: u32,
+    rank: u32,
+    word: &[u8],
+    out: &mut [u8],
+) -> i64
+    ensures { (result, out.new) ≡ numbered (normalFormOfWord kind rank word.now out.old) }
+{
+    c_api::words::winnathey_normal_form_of_word(kind, rank, word, out)
+}
+
+// I7: the product of two words of one kind and rank as a normal form, written to the front of `out`. Returns its
+// length.
+#[unsafe(no_mangle)]
+pub extern "C" fn winnathey_product_of_words(
+    kind: u32,
+    rank: u32,
+    first: &[u8],
+    second: &[u8],
+    out: &mut [u8],
+) -> i64
+    ensures { (result, out.new) ≡ numbered (productOfWords kind rank first.now second.now out.old) }
+{
+    c_api::words::winnathey_product_of_words(kind, rank, first, second, out)
+}
+
+// I8: the inverse of a word as a normal form, written to the front of `out`. Returns its length.
+#[unsafe(no_mangle)]
+pub extern "C" fn winnathey_inverse_of_word(
+    kind: u32,
+    rank: u32,
+    word: &[u8],
+    out: &mut [u8],
+) -> i64
+    ensures { (result, out.new) ≡ numbered (inverseOfWord kind rank word.now out.old) }
+{
+    c_api::words::winnathey_inverse_of_word(kind, rank, word, out)
+}
+
+// I11: the length of a word's normal form.
+#[unsafe(no_mangle)]
+pub extern "C" fn winnathey_length_of_word(kind: u32, rank: u32, word: &[u8]) -> i64
+    ensures { result ≡ number_of (lengthOfWord kind rank word.now) }
+{
+    c_api::words::winnathey_length_of_word(kind, rank, word)
+}
+
+// I13: the length of a word's normal form as its three counts: inversions, negative sum pairs and negative entries
+// go to the first three places of `counts`. Returns their total.
+#[unsafe(no_mangle)]
+pub extern "C" fn winnathey_crossings_of_word(
+    kind: u32,
+    rank: u32,
+    word: &[u8],
+    counts: &mut [u64],
+) -> i64
+    ensures { (result, counts.new) ≡ listed (crossingNumbers (crossingsOfWord kind rank word.now)) counts.old }
+{
+    c_api::words::winnathey_crossings_of_word(kind, rank, word, counts)
+}
+
+// I15: whether two presets show the same window, whatever their kinds and ranks: 1 is yes, 0 is no.
+#[unsafe(no_mangle)]
+pub extern "C" fn winnathey_same(
+    kind1: u32,
+    rank1: u32,
+    word1: &[u8],
+    kind2: u32,
+    rank2: u32,
+    word2: &[u8],
+) -> i64
+    ensures { result ≡ verdictNumber (presetsEqual kind1 rank1 word1.now kind2 rank2 word2.now) }
+{
+    c_api::words::winnathey_same(kind1, rank1, word1, kind2, rank2, word2)
+}
+
+// I17: the better of two words of one kind and rank: 1 is the first, 2 the second. 0 if the windows differ or a
+// check refuses.
+#[unsafe(no_mangle)]
+pub extern "C" fn winnathey_better(kind: u32, rank: u32, first: &[u8], second: &[u8]) -> i64
+    ensures { result ≡ choiceNumber (choice (handsBack kind rank first.now second.now)
+        (shortlex second.now first.now)) }
+{
+    c_api::words::winnathey_better(kind, rank, first, second)
+}
