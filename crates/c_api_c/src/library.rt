@@ -1,6 +1,6 @@
 // The library itself: its version, and what its refusals say.
 ghost use Rattle.std.specs.Prelude.{◌≡◌};
-ghost use Rattle.messages.specs.Messages.{refusalMessage};
+ghost use Rattle.messages.specs.Messages.{refusal_message};
 ghost use Rattle.c_api.specs.Calls.{numbered, version};
 
 // The version: 1,000,000 for each major version, 1,000 for each minor one and 1 for each patch. The file VERSION
@@ -16,7 +16,7 @@ pub extern "C" fn winnathey_version() -> i64
 // refusal. Refusal 14.
 #[unsafe(no_mangle)]
 pub extern "C" fn winnathey_refusal_message(refusal: u32, out: &mut [u8]) -> i64
-    ensures { (result, out.new) ≡ numbered (refusalMessage refusal out.old) }
+    ensures { (result, out.new) ≡ numbered (refusal_message refusal out.old) }
 {
     c_api::library::winnathey_refusal_message(refusal, out)
 }

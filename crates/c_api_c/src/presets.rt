@@ -2,14 +2,14 @@
 // one function over the edition.
 ghost use Rattle.std.specs.Prelude.{◌≡◌};
 ghost use Rattle.book_format.specs.declared.Edition.TheVariants.{First, Second};
-ghost use Rattle.book_format.specs.Calls.{checkedBook, checkedPreset, readingPresets, appending};
+ghost use Rattle.book_format.specs.Calls.{checked_book, checked_preset, reading_presets, appending};
 ghost use Rattle.book_format.specs.Conversion.{converting};
-ghost use Rattle.c_api.specs.Calls.{numbered, openedNumber, presetNumbers, listed};
+ghost use Rattle.c_api.specs.Calls.{numbered, opened_number, preset_numbers, listed};
 
 // I25, of the first edition.
 #[unsafe(no_mangle)]
 pub extern "C" fn winnathey_book_check(book: &[u8]) -> i64
-    ensures { result ≡ openedNumber (checkedBook First book.now) }
+    ensures { result ≡ opened_number (checked_book First book.now) }
 {
     c_api::presets::winnathey_book_check(book)
 }
@@ -17,7 +17,7 @@ pub extern "C" fn winnathey_book_check(book: &[u8]) -> i64
 // I26, of the first edition.
 #[unsafe(no_mangle)]
 pub extern "C" fn winnathey_preset(book: &[u8], number: usize, fields: &mut [u64]) -> i64
-    ensures { (result, fields.new) ≡ listed (presetNumbers (checkedPreset First book.now number)) fields.old }
+    ensures { (result, fields.new) ≡ listed (preset_numbers (checked_preset First book.now number)) fields.old }
 {
     c_api::presets::winnathey_preset(book, number, fields)
 }
@@ -25,7 +25,7 @@ pub extern "C" fn winnathey_preset(book: &[u8], number: usize, fields: &mut [u64
 // I30, of the first edition.
 #[unsafe(no_mangle)]
 pub extern "C" fn winnathey_presets(book: &[u8], first: usize, fields: &mut [u64]) -> i64
-    ensures { (result, fields.new) ≡ numbered (readingPresets First book.now first fields.old) }
+    ensures { (result, fields.new) ≡ numbered (reading_presets First book.now first fields.old) }
 {
     c_api::presets::winnathey_presets(book, first, fields)
 }
@@ -47,7 +47,7 @@ pub extern "C" fn winnathey_append(
 // I25, of the second edition.
 #[unsafe(no_mangle)]
 pub extern "C" fn winnathey_second_book_check(book: &[u8]) -> i64
-    ensures { result ≡ openedNumber (checkedBook Second book.now) }
+    ensures { result ≡ opened_number (checked_book Second book.now) }
 {
     c_api::presets::winnathey_second_book_check(book)
 }
@@ -55,7 +55,7 @@ pub extern "C" fn winnathey_second_book_check(book: &[u8]) -> i64
 // I26, of the second edition.
 #[unsafe(no_mangle)]
 pub extern "C" fn winnathey_second_preset(book: &[u8], number: usize, fields: &mut [u64]) -> i64
-    ensures { (result, fields.new) ≡ listed (presetNumbers (checkedPreset Second book.now number)) fields.old }
+    ensures { (result, fields.new) ≡ listed (preset_numbers (checked_preset Second book.now number)) fields.old }
 {
     c_api::presets::winnathey_second_preset(book, number, fields)
 }
@@ -63,7 +63,7 @@ pub extern "C" fn winnathey_second_preset(book: &[u8], number: usize, fields: &m
 // I30, of the second edition.
 #[unsafe(no_mangle)]
 pub extern "C" fn winnathey_second_presets(book: &[u8], first: usize, fields: &mut [u64]) -> i64
-    ensures { (result, fields.new) ≡ numbered (readingPresets Second book.now first fields.old) }
+    ensures { (result, fields.new) ≡ numbered (reading_presets Second book.now first fields.old) }
 {
     c_api::presets::winnathey_second_presets(book, first, fields)
 }

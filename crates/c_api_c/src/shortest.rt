@@ -1,6 +1,6 @@
 // Calls on shortest words.
 ghost use Rattle.std.specs.Prelude.{◌≡◌};
-ghost use Rattle.shortest_words.specs.BetweenCalls.{betweenWindows};
+ghost use Rattle.shortest_words.specs.BetweenCalls.{between_windows};
 ghost use Rattle.c_api.specs.Calls.{numbered};
 ghost use Rattle.c_api.specs.Shortest.{FallbackNumbered};
 
@@ -32,7 +32,7 @@ pub extern "C" fn winnathey_between(
     to: &[i8],
     out: &mut [u8],
 ) -> i64
-    ensures { (result, out.new) ≡ numbered (betweenWindows kind rank allowed from.now to.now out.old) }
+    ensures { (result, out.new) ≡ numbered (between_windows kind rank allowed from.now to.now out.old) }
 {
     c_api::shortest::winnathey_between(kind, rank, allowed, from, to, out)
 }

@@ -1,6 +1,6 @@
 // Words split by allowed steps.
 ghost use Rattle.std.specs.Prelude.{◌≡◌};
-ghost use Rattle.c_api.specs.Calls.{splittingListed};
+ghost use Rattle.c_api.specs.Calls.{splitting_listed};
 
 // I22: a word split by the set of allowed steps, bit 0 for step 1: the first word is over allowed steps, the
 // second's window has no shortest word that begins with one. Each is a normal form, written to the front of its
@@ -17,7 +17,7 @@ pub extern "C" fn winnathey_split(
     lengths: &mut [u64],
 ) -> i64
     ensures { (result, ((first.new, second.new), lengths.new))
-        ≡ splittingListed kind rank allowed word.now first.old second.old lengths.old }
+        ≡ splitting_listed kind rank allowed word.now first.old second.old lengths.old }
 {
     c_api::splits::winnathey_split(kind, rank, allowed, word, first, second, lengths)
 }

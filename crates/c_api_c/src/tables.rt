@@ -1,6 +1,6 @@
 // The delay table.
 ghost use Rattle.std.specs.Prelude.{◌≡◌};
-ghost use Rattle.c_api.specs.Calls.{delayTableListed};
+ghost use Rattle.c_api.specs.Calls.{delay_table_listed};
 
 // I24: how many windows of a kind and a rank have each length, from 0 to the greatest, written to the front of
 // `counts`; the longest window, written to that of `window`; its normal form, written to that of `form`. The length
@@ -16,7 +16,7 @@ pub extern "C" fn winnathey_delay_table(
     lengths: &mut [u64],
 ) -> i64
     ensures { (result, ((counts.new, window.new, form.new), lengths.new))
-        ≡ delayTableListed kind rank counts.old window.old form.old lengths.old }
+        ≡ delay_table_listed kind rank counts.old window.old form.old lengths.old }
 {
     c_api::tables::winnathey_delay_table(kind, rank, counts, window, form, lengths)
 }

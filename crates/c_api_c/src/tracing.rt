@@ -1,13 +1,13 @@
 // The rewriting to its end.
 ghost use Rattle.std.specs.Prelude.{◌≡◌};
-ghost use Rattle.traces.specs.Traces.{numberOfSteps};
-ghost use Rattle.c_api.specs.Calls.{number_of, rewritingToEndListed};
+ghost use Rattle.traces.specs.Traces.{number_of_steps};
+ghost use Rattle.c_api.specs.Calls.{number_of, rewriting_to_end_listed};
 
 // I21: how many steps `winnathey_rewrite_to_end` takes: so many places each of its lists must have. For a word of L
 // letters that is at most L (L - 1) / 2 (T25). Refusals 5 to 8.
 #[unsafe(no_mangle)]
 pub extern "C" fn winnathey_rewrite_steps(kind: u32, rank: u32, word: &[u8]) -> i64
-    ensures { result ≡ number_of (numberOfSteps kind rank word.now) }
+    ensures { result ≡ number_of (number_of_steps kind rank word.now) }
 {
     c_api::tracing::winnathey_rewrite_steps(kind, rank, word)
 }
@@ -28,7 +28,7 @@ pub extern "C" fn winnathey_rewrite_to_end(
     written: &mut [u64],
 ) -> i64
     ensures { (result, ((families.new, places.new, lengths.new, out.new), written.new))
-        ≡ rewritingToEndListed kind rank word.now families.old places.old lengths.old
+        ≡ rewriting_to_end_listed kind rank word.now families.old places.old lengths.old
         out.old written.old }
 {
     c_api::tracing::winnathey_rewrite_to_end(

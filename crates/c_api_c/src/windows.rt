@@ -1,7 +1,7 @@
 // Calls on windows.
 ghost use Rattle.std.specs.Prelude.{◌≡◌};
-ghost use Rattle.coxeter.specs.Calls.{productOfWindows, inverseOfWindow, normalFormOfWindow, lengthOfWindow, crossingsOfWindow};
-ghost use Rattle.c_api.specs.Calls.{numbered, number_of, crossingNumbers, listed};
+ghost use Rattle.coxeter.specs.Calls.{product_of_windows, inverse_of_window, normal_form_of_window, length_of_window, crossings_of_window};
+ghost use Rattle.c_api.specs.Calls.{numbered, number_of, crossing_numbers, listed};
 
 // I5: the normal form of a window, written to the front of `out`. Returns its length.
 #[unsafe(no_mangle)]
@@ -11,7 +11,7 @@ pub extern "C" fn winnathey_normal_form_of_window(
     window: &[i8],
     out: &mut [u8],
 ) -> i64
-    ensures { (result, out.new) ≡ numbered (normalFormOfWindow kind rank window.now out.old) }
+    ensures { (result, out.new) ≡ numbered (normal_form_of_window kind rank window.now out.old) }
 {
     c_api::windows::winnathey_normal_form_of_window(kind, rank, window, out)
 }
@@ -25,7 +25,7 @@ pub extern "C" fn winnathey_product_of_windows(
     second: &[i8],
     out: &mut [i8],
 ) -> i64
-    ensures { (result, out.new) ≡ numbered (productOfWindows kind rank first.now second.now out.old) }
+    ensures { (result, out.new) ≡ numbered (product_of_windows kind rank first.now second.now out.old) }
 {
     c_api::windows::winnathey_product_of_windows(kind, rank, first, second, out)
 }
@@ -38,7 +38,7 @@ pub extern "C" fn winnathey_inverse_of_window(
     window: &[i8],
     out: &mut [i8],
 ) -> i64
-    ensures { (result, out.new) ≡ numbered (inverseOfWindow kind rank window.now out.old) }
+    ensures { (result, out.new) ≡ numbered (inverse_of_window kind rank window.now out.old) }
 {
     c_api::windows::winnathey_inverse_of_window(kind, rank, window, out)
 }
@@ -46,7 +46,7 @@ pub extern "C" fn winnathey_inverse_of_window(
 // I12: the length of a window's normal form.
 #[unsafe(no_mangle)]
 pub extern "C" fn winnathey_length_of_window(kind: u32, rank: u32, window: &[i8]) -> i64
-    ensures { result ≡ number_of (lengthOfWindow kind rank window.now) }
+    ensures { result ≡ number_of (length_of_window kind rank window.now) }
 {
     c_api::windows::winnathey_length_of_window(kind, rank, window)
 }
@@ -60,7 +60,7 @@ pub extern "C" fn winnathey_crossings_of_window(
     window: &[i8],
     counts: &mut [u64],
 ) -> i64
-    ensures { (result, counts.new) ≡ listed (crossingNumbers (crossingsOfWindow kind rank window.now)) counts.old }
+    ensures { (result, counts.new) ≡ listed (crossing_numbers (crossings_of_window kind rank window.now)) counts.old }
 {
     c_api::windows::winnathey_crossings_of_window(kind, rank, window, counts)
 }

@@ -1,14 +1,14 @@
 // Calls on words.
 ghost use Rattle.std.specs.Prelude.{◌≡◌};
 ghost use Rattle.coxeter.specs.Dictionary.{shortlex};
-ghost use Rattle.coxeter.specs.Calls.{windowOfWord, normalFormOfWord, productOfWords, inverseOfWord, lengthOfWord, crossingsOfWord};
-ghost use Rattle.coxeter.specs.Calls.{presetsEqual, handsBack, choice};
-ghost use Rattle.c_api.specs.Calls.{numbered, number_of, verdictNumber, choiceNumber, crossingNumbers, listed};
+ghost use Rattle.coxeter.specs.Calls.{window_of_word, normal_form_of_word, product_of_words, inverse_of_word, length_of_word, crossings_of_word};
+ghost use Rattle.coxeter.specs.Calls.{presets_equal, hands_back, choice};
+ghost use Rattle.c_api.specs.Calls.{numbered, number_of, verdict_number, choice_number, crossing_numbers, listed};
 
 // I4: the window of a word, written to the front of `out`. Returns the number of its entries.
 #[unsafe(no_mangle)]
 pub extern "C" fn winnathey_window_of_word(kind: u32, rank: u32, word: &[u8], out: &mut [i8]) -> i64
-    ensures { (result, out.new) ≡ numbered (windowOfWord kind rank word.now out.old) }
+    ensures { (result, out.new) ≡ numbered (window_of_word kind rank word.now out.old) }
 {
     c_api::words::winnathey_window_of_word(kind, rank, word, out)
 }
@@ -21,7 +21,7 @@ pub extern "C" fn winnathey_normal_form_of_word(
     word: &[u8],
     out: &mut [u8],
 ) -> i64
-    ensures { (result, out.new) ≡ numbered (normalFormOfWord kind rank word.now out.old) }
+    ensures { (result, out.new) ≡ numbered (normal_form_of_word kind rank word.now out.old) }
 {
     c_api::words::winnathey_normal_form_of_word(kind, rank, word, out)
 }
@@ -36,7 +36,7 @@ pub extern "C" fn winnathey_product_of_words(
     second: &[u8],
     out: &mut [u8],
 ) -> i64
-    ensures { (result, out.new) ≡ numbered (productOfWords kind rank first.now second.now out.old) }
+    ensures { (result, out.new) ≡ numbered (product_of_words kind rank first.now second.now out.old) }
 {
     c_api::words::winnathey_product_of_words(kind, rank, first, second, out)
 }
@@ -49,7 +49,7 @@ pub extern "C" fn winnathey_inverse_of_word(
     word: &[u8],
     out: &mut [u8],
 ) -> i64
-    ensures { (result, out.new) ≡ numbered (inverseOfWord kind rank word.now out.old) }
+    ensures { (result, out.new) ≡ numbered (inverse_of_word kind rank word.now out.old) }
 {
     c_api::words::winnathey_inverse_of_word(kind, rank, word, out)
 }
@@ -57,7 +57,7 @@ pub extern "C" fn winnathey_inverse_of_word(
 // I11: the length of a word's normal form.
 #[unsafe(no_mangle)]
 pub extern "C" fn winnathey_length_of_word(kind: u32, rank: u32, word: &[u8]) -> i64
-    ensures { result ≡ number_of (lengthOfWord kind rank word.now) }
+    ensures { result ≡ number_of (length_of_word kind rank word.now) }
 {
     c_api::words::winnathey_length_of_word(kind, rank, word)
 }
@@ -71,7 +71,7 @@ pub extern "C" fn winnathey_crossings_of_word(
     word: &[u8],
     counts: &mut [u64],
 ) -> i64
-    ensures { (result, counts.new) ≡ listed (crossingNumbers (crossingsOfWord kind rank word.now)) counts.old }
+    ensures { (result, counts.new) ≡ listed (crossing_numbers (crossings_of_word kind rank word.now)) counts.old }
 {
     c_api::words::winnathey_crossings_of_word(kind, rank, word, counts)
 }
@@ -86,7 +86,7 @@ pub extern "C" fn winnathey_same(
     rank2: u32,
     word2: &[u8],
 ) -> i64
-    ensures { result ≡ verdictNumber (presetsEqual kind1 rank1 word1.now kind2 rank2 word2.now) }
+    ensures { result ≡ verdict_number (presets_equal kind1 rank1 word1.now kind2 rank2 word2.now) }
 {
     c_api::words::winnathey_same(kind1, rank1, word1, kind2, rank2, word2)
 }
@@ -95,7 +95,7 @@ pub extern "C" fn winnathey_same(
 // check refuses.
 #[unsafe(no_mangle)]
 pub extern "C" fn winnathey_better(kind: u32, rank: u32, first: &[u8], second: &[u8]) -> i64
-    ensures { result ≡ choiceNumber (choice (handsBack kind rank first.now second.now)
+    ensures { result ≡ choice_number (choice (hands_back kind rank first.now second.now)
         (shortlex second.now first.now)) }
 {
     c_api::words::winnathey_better(kind, rank, first, second)
