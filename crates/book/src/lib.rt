@@ -1,5 +1,7 @@
 // The preset book in its two editions (section B of the specification): checks, reading by number, appending,
 // converting. No public function has a `requires`.
+#![tactic(auto)]
+
 mod converting;
 mod numbers;
 pub mod reader;

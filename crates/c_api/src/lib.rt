@@ -2,6 +2,8 @@
 // k (IC2). A slice is two arguments in C, the pointer and the length (IC6). Further results go to the front of an
 // array that the caller provides, which check 14 concerns as every output (IC3). No exported function has a
 // `requires`: what it returns and writes is a definition for every input, refused ones included.
+#![tactic(auto)]
+
 pub mod library;
 mod numbers;
 pub mod presets;

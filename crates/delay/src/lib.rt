@@ -2,6 +2,8 @@
 //
 // No public function has a `requires`: every input is checked, and what the call returns and writes is a definition
 // of distribution/specs/Calls for every input, refused ones included.
+#![tactic(auto)]
+
 mod counting;
 mod lengths;
 mod longest;

@@ -3,6 +3,8 @@
 //
 // No public function has a `requires`: every input is checked in the order of CO2, and what a call returns and
 // writes is a definition of shortest_words/specs for every input, refused ones included.
+#![tactic(auto)]
+
 mod allowed;
 mod between;
 mod splitting;

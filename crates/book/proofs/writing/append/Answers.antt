@@ -46,7 +46,6 @@ returns-else-out-size c =
     record { value = h.0; out_after = h.1 }
 
 pub returns-in-Refused : goal.returns-in-Refused
-returns-in-Refused c =    let refused = refusal_of_lanes _ _ _ c.append_lanes.ensures _ c.in-Refused.is in
-
+returns-in-Refused c = let refused = refusal_of_lanes _ _ _ c.append_lanes.ensures _ c.in-Refused.is in
     let h = appending-refused _ _ _ _ _ _ refused.0 refused.1 in
     record { value = h.0; out_after = h.1 }

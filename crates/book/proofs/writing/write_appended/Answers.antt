@@ -19,7 +19,7 @@ overflow_sub-trailer c =
 
 pub write_records-requires : goal.write_records-requires
 write_records-requires c =
-    let pre = c.requires in 
+    let pre = c.requires in
     let a = accepted _ _ pre.book_value.0 in
     let e = c.count_of-c.ensures.0 in
     let s = c.size_of.ensures in

@@ -17,7 +17,7 @@ slice_bounds-count-end-2 c = sym (length-take-le _ _ (search rules))
 
 pub count-requires : goal.count-requires
 count-requires c =
-    let pre = c.requires in 
+    let pre = c.requires in
     record { rank_value = pre.rank_value; m_value = pre.m_value; counts_len = length-take-le _ _ (search rules) ∙ ap (λ (x : ℕ). x + 1) c.greatest_length-size.ensures }
 
 pub returns : goal.returns

@@ -12,7 +12,7 @@ loop-i-init c = (omega arith, refl, refl)
 pub longest_entry-requires : goal.longest_entry-requires
 longest_entry-requires c =
     let size = c.loop-i.invariant.1 in
-    let pre = c.requires in 
+    let pre = c.requires in
     (size ∙ pre.w_len, c.loop-i-test.true, lanes_fit _ _ _ pre.ranked.1 (size ∙ pre.w_len))
 
 pub loop-i-preserved : goal.loop-i-preserved
@@ -27,5 +27,5 @@ loop-i-preserved c =
 pub returns : goal.returns
 returns c =
     let i = c.loop-i.invariant in
-    let pre = c.requires in 
+    let pre = c.requires in
     longest_all _ _ _ _ pre.ranked.0 c.loop-i-test.false (i.1 ∙ pre.w_len) i.2

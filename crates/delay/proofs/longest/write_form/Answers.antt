@@ -12,5 +12,5 @@ slice_bounds-normal_form_of_window-end c = sym (length-take-le _ _ (search rules
 
 pub returns : goal.returns
 returns c =
-    let pre = c.requires in 
+    let pre = c.requires in
     c.normal_form_of_window.ensures.1 ∙ form_written _ _ _ _ pre.rank_of pre.entries_value pre.rank_in_bounds

@@ -17,5 +17,5 @@ set_longest-requires c =
 
 pub returns : goal.returns
 returns c =
-    let pre = c.requires in 
+    let pre = c.requires in
     front_parts _ _ _ _ (length-longest _ _ (rank_accepted _ _ pre.rank_of).0 ∙ sym pre.m_value) c.set_longest.ensures

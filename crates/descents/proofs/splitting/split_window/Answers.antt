@@ -25,8 +25,7 @@ slice_bounds-write_parts-end c =
     stored_size _ _ c.strip.new.w size c.strip.auto.w
 
 pub write_parts-requires : goal.write_parts-requires
-write_parts-requires c =    let size = part_length _ _ _ _ _ c.invert.ensures.1 refl c.invert.ensures.0 in
-
+write_parts-requires c = let size = part_length _ _ _ _ _ c.invert.ensures.1 refl c.invert.ensures.0 in
     let h = parts_asked _ _ _ _ c.requires.0 c.requires.1 (part_is _ _ _ _ _ c.invert.ensures.1 refl)
     (stored_is _ _ _ size c.strip.auto.w)
     c.strip.ensures in

@@ -10,11 +10,11 @@ use Rattle.descents.proofs.splitting.write_inverse.Goals as goal
 
 pub returns-in_default : goal.returns-in_default
 returns-in_default c =
-    let pre = c.requires in 
+    let pre = c.requires in
     let passed = then_none _ _ pre.rank_of.0 ∙ pre.rank_of.1 in
     absurd (omega (arith, (told_refused _ _ _ _ _ passed c.normal_form_of_inverse.ensures _ c.in_default.is).0, pre.w_in_bounds))
 
 pub returns : goal.returns
 returns c =
-    let pre = c.requires in 
+    let pre = c.requires in
     answered_length _ _ _ (then_none _ _ pre.rank_of.0 ∙ pre.rank_of.1) c.normal_form_of_inverse.ensures _ c.in-Length.is

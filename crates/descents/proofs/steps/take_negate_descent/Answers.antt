@@ -11,11 +11,10 @@ overflow_sub-w c =
     negated_fits (get_or c.args.w.now c.args.p (pos 0)) c.a-1.given c.requires.1
 
 pub returns-then-is_negative : goal.returns-then-is_negative
-returns-then-is_negative c =
-    (
-      negative_told _ c.a-1.given c.is_negative.ensures c.if-is_negative.true,
-      set_eq_negated _ _ c.requires.0 c.a-1.given c.requires.1,
-    )
+returns-then-is_negative c = (
+  negative_told _ c.a-1.given c.is_negative.ensures c.if-is_negative.true,
+  set_eq_negated _ _ c.requires.0 c.a-1.given c.requires.1,
+)
 
 pub returns : goal.returns
 returns c = (negative_told _ c.a-1.given c.is_negative.ensures c.if-is_negative.false, refl)

@@ -6,11 +6,10 @@ use Rattle.descents.proofs.steps.Descents.{later_told}
 use Rattle.descents.proofs.steps.take_swap_descent.Goals as goal
 
 pub returns-then-is_later : goal.returns-then-is_later
-returns-then-is_later c =
-    (
-      later_told _ _ c.a-1.given c.b-1.given c.is_later.ensures c.if-is_later.true,
-      set_eq_swap _ _ c.requires c.a-1.given c.b-1.given,
-    )
+returns-then-is_later c = (
+  later_told _ _ c.a-1.given c.b-1.given c.is_later.ensures c.if-is_later.true,
+  set_eq_swap _ _ c.requires c.a-1.given c.b-1.given,
+)
 
 pub returns : goal.returns
 returns c =

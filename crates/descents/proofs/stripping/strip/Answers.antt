@@ -8,7 +8,7 @@ loop-s-init c = (refl, turning_start c.requires.window_of)
 
 pub take_allowed_descent-requires : goal.take_allowed_descent-requires
 take_allowed_descent-requires c =
-    let p = c.requires in 
+    let p = c.requires in
     let t = c.loop-s.invariant.1 in
     record { le_s = (t.low, c.loop-s-test.true); ranked = p.ranked; window_of = t.passes }
 

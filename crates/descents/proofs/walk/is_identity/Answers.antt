@@ -11,11 +11,10 @@ pub returns-then-w-i : goal.returns-then-w-i
 returns-then-w-i c = identity_differs _ _ c.loop-i-test.true c.if-w-i.true
 
 pub loop-i-preserved : goal.loop-i-preserved
-loop-i-preserved c =
-    (
-      omega arith,
-      identity_next _ _ c.loop-i-test.true c.requires c.t6-1.given c.if-w-i.false c.loop-i.invariant.1,
-    )
+loop-i-preserved c = (
+  omega arith,
+  identity_next _ _ c.loop-i-test.true c.requires c.t6-1.given c.if-w-i.false c.loop-i.invariant.1,
+)
 
 pub returns : goal.returns
 returns c = identity_end _ _ c.loop-i-test.false c.loop-i.invariant.1

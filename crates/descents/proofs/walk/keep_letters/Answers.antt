@@ -19,7 +19,7 @@ overflow_cast-word c = omega (arith, c.slice_known-in-loop-i-1.given (c.loop-i.i
 
 pub take_descent-requires : goal.take_descent-requires
 take_descent-requires c =
-    let p = c.requires in 
+    let p = c.requires in
     record { le_s = walking_within _ _ _ _ _ c.loop-i.invariant.1 (omega arith) (letters_accepted _ _ p.word_of); ranked = p.ranked; window_of = c.loop-i.invariant.1.passes }
 
 pub overflow_add-kept : goal.overflow_add-kept

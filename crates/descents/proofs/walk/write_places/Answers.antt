@@ -1,5 +1,4 @@
 -- What `search` leaves open of the proof of `walk::write_places`.
-use mathlib.Core.Logic.{⊎_elim}
 use native.Mathlib.Omega.{arith}
 use Rattle.coxeter.proofs.Lists.{storing_all}
 use Rattle.descents.proofs.walk.Walking.{writing_room, writing_kept, writing_left, writing_end}
@@ -19,14 +18,13 @@ overflow_add-at c =
     omega arith
 
 pub loop-i-preserved : goal.loop-i-preserved
-loop-i-preserved c =
-    (
-      omega arith,
-      elim c.if-word-i-ne0.branch [
-        | then-word-i-ne0 w ↦ rw (w.places-is, w.at-is) (writing_kept _ _ _ _ _ c.loop-i-test.true c.loop-i.invariant.1 w.if-word-i-ne0.true)
-        | else-word-i-ne0 w ↦ rw (w.places-is, w.at-is) (writing_left _ _ _ _ _ c.loop-i-test.true c.loop-i.invariant.1 w.if-word-i-ne0.false)
-      ],
-    )
+loop-i-preserved c = (
+  omega arith,
+  elim c.if-word-i-ne0.branch [
+    | then-word-i-ne0 w ↦ rw (w.places-is, w.at-is) (writing_kept _ _ _ _ _ c.loop-i-test.true c.loop-i.invariant.1 w.if-word-i-ne0.true)
+    | else-word-i-ne0 w ↦ rw (w.places-is, w.at-is) (writing_left _ _ _ _ _ c.loop-i-test.true c.loop-i.invariant.1 w.if-word-i-ne0.false)
+  ],
+)
 
 pub shape_of-places : goal.shape_of-places
 shape_of-places c = c.loop-i.invariant.1.size
