@@ -1,5 +1,7 @@
 // The listing of a book (P3 to P9 and I32 of the specification), piece by piece into a lent buffer, and the line of a
 // refused book. No public function has a `requires`.
+#![tactic(auto)]
+
 mod lines;
 mod numbers;
 mod pieces;
