@@ -1,5 +1,5 @@
 // Cases: each function makes a call or a few, and returns the count t plus the number of its cases that hold.
-ghost use Rattle.std.specs.Prelude.{◌≤◌};
+ghost use Rattle.std.specs.Prelude.{◌≤◌, length};
 
 use book::Edition;
 use rewriter::Rewrite;
@@ -44,7 +44,7 @@ fn same_entries(a: &[i8], b: &[i8]) -> bool {
 
 // The window of a word, at the front of `out`; returns how many entries it has.
 fn put_window(kind: u8, rank: u8, word: &[u8], out: &mut [i8]) -> usize
-    ensures* { do ⌜ result ≤ (← (⟦out.len()⟧).entry) ⌝ }
+    ensures { result ≤ length out.old }
 {
     let answer = window::window_of_word(kind, rank, word, out);
     written(answer, out.len())
@@ -54,7 +54,7 @@ fn put_window(kind: u8, rank: u8, word: &[u8], out: &mut [i8]) -> usize
 fn normal_form(t: u64, kind: u8, rank: u8, w: &[i8], word: &[u8]) -> u64 {
     let mut out = [0; 16];
     let k = written(window::normal_form_of_window(kind, rank, w, &mut out), 16);
-    let t = wrapping_add_u64(t, check::same(&out[0..k], word) as u64);
+    let t = wrapping_add_u64(t, (&out[0..k] == word) as u64);
     wrapping_add_u64(
         t,
         is_answer(window::length_of_window(kind, rank, w), 0, k) as u64,
@@ -75,7 +75,7 @@ pub(crate) fn product(t: u64, kind: u8, rank: u8, x: &[u8], y: &[u8], word: &[u8
     let mut out = [0; 16];
     let answer = window::product_of_words(kind, rank, x, y, &mut out);
     let k = written(answer, 16);
-    wrapping_add_u64(t, check::same(&out[0..k], word) as u64)
+    wrapping_add_u64(t, (&out[0..k] == word) as u64)
 }
 
 // The product of the windows of two words.
@@ -123,7 +123,7 @@ pub(crate) fn not_first(t: u64, kind: u8, rank: u8) -> u64 {
     let mut out = [0; 16];
     let answer = window::normal_form_of_word(kind, rank, &[1, 3, 2], &mut out);
     let k = written(answer, 16);
-    wrapping_add_u64(t, check::same(&out[0..k], &[3, 1, 2]) as u64)
+    wrapping_add_u64(t, (&out[0..k] == [3, 1, 2].as_slice()) as u64)
 }
 
 // Q9: 2 4 in D₄ has no rule.
@@ -143,8 +143,5 @@ pub(crate) fn preset_letters(
     number: usize,
     word: &[u8],
 ) -> u64 {
-    wrapping_add_u64(
-        t,
-        check::same(book::letters(edition, book, number), word) as u64,
-    )
+    wrapping_add_u64(t, (book::letters(edition, book, number) == word) as u64)
 }

@@ -1,6 +1,8 @@
 // Checks the worked examples of source document 000, those of the specification that no table proves (J10 to J12,
 // Q7 to Q11), and J13's book, its letters and what it answers when it is opened, and prints how many cases of each
 // group hold.
+#![tactic(auto)]
+
 mod cases;
 mod opened;
 
@@ -9,7 +11,7 @@ use cases::{
     example, least_entry, letter, long_words, none_fits, not_first, preset_letters, product,
     window_product,
 };
-use libc::STDOUT_FILENO;
+use std::io;
 
 // Source document 000, Example 2: x, y and z = xy.
 fn example_2() -> u64 {
@@ -105,28 +107,30 @@ fn wrong() -> u64 {
     window_product(t, 1, 5, &[1], &[2], &[3, 1, 2, 4, 5, 6])
 }
 
-fn report(name: &[u8], held: u64) {
-    io::write_all(STDOUT_FILENO, name);
-    io::print_decimal(STDOUT_FILENO, held);
-    io::write_all(STDOUT_FILENO, b" cases hold\n");
+fn report(rt: &impl Print, name: &str, held: u64) -> io::Result<()> {
+    println!(rt; "{name}{held} cases hold")
 }
 
-fn books() {
+fn books(rt: &impl Print) -> io::Result<()> {
     let first =
         b"\x02\x02\x04\x00\x01\x02\x01\x02\x03\x05\x06\x00\x05\x02\x03\x05\x01\x02\x00\x00\x08\x00\x02\x00";
     let second =
         b"\x02\x02\x02\x04\x00\x01\x02\x01\x02\x03\x05\x05\x06\x00\x05\x02\x03\x05\x01\x02\x00\x00\x09\x00\x02\x00";
     let t = letters(letters(0, Edition::First, first), Edition::Second, second);
-    report(b"Letters in books: ", t);
+    report(rt, "Letters in books: ", t)?;
     let t = opened_book(0, Edition::First, first, 4, 12);
     let t = opened_book(t, Edition::Second, second, 5, 14);
-    report(b"Opened books: ", other_edition(t, Edition::Second, first));
+    report(
+        rt,
+        "Opened books: ",
+        other_edition(t, Edition::Second, first),
+    )
 }
 
-fn main() {
-    report(b"Examples 2 to 4: ", worked());
-    report(b"Limits: ", limits());
-    report(b"Mistakes close at hand: ", mistakes());
-    books();
-    report(b"Wrong on purpose: ", wrong());
+fn main(rt: HostRuntime) -> io::Result<()> {
+    report(&rt, "Examples 2 to 4: ", worked())?;
+    report(&rt, "Limits: ", limits())?;
+    report(&rt, "Mistakes close at hand: ", mistakes())?;
+    books(&rt)?;
+    report(&rt, "Wrong on purpose: ", wrong())
 }

@@ -1,6 +1,5 @@
 // Cases of opened books (B14): each function asks a book through the reader, and returns the count t plus the number of
-// its cases that hold. A function with a local that holds an opened book is proved by a walk by hand; the two that have
-// one do nothing else.
+// its cases that hold.
 ghost use Rattle.std.specs.Prelude.{◌≡◌, ◌+◌};
 ghost use Rattle.book_format.specs.Calls.{checked_book, checked_preset, letters_of, letters_start};
 
@@ -106,8 +105,5 @@ pub(crate) fn refused(
 
 // The letters of a preset; a refused one has none.
 pub(crate) fn letters(t: u64, edition: Edition, book: &[u8], number: usize, word: &[u8]) -> u64 {
-    wrapping_add_u64(
-        t,
-        check::same(letters_of(edition, book, number), word) as u64,
-    )
+    wrapping_add_u64(t, (letters_of(edition, book, number) == word) as u64)
 }
