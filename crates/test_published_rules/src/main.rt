@@ -1,14 +1,25 @@
 // R20: checks the rules that source document 001 publishes for D by the rewriter, and looks for each rule for D of
 // the specification among them. Prints how many rules hold.
+#![tactic(auto)]
+
 mod listed;
 mod paper;
 mod sides;
 
-ghost use Rattle.std.specs.Prelude.{◌≤◌};
+ghost use Rattle.std.specs.Prelude.{◌≡◌, ◌≢◌, ◌≤◌, ◌<◌, ℕ, slice_index};
 
-use libc::STDOUT_FILENO;
 use rewriter::Rewrite;
 use sides::{Rule, have_same_sides, letter, side, step, word_rule};
+use std::io;
+
+// How many letters a side has: the place of its first zero, or 128 if there is none.
+fn size_of(side: &[u8; 128]) -> usize
+    ensures within { result ≤ 128 }
+    ensures before { (k : ℕ) → k < result → slice_index side.now k ≢ 0 }
+    ensures found { result < 128 → slice_index side.now result ≡ 0 }
+{
+    side.iter().position(|&x| x == 0).unwrap_or(128)
+}
 
 // Whether the answer names the specification's rule of these sides, and the output holds the right side and nothing
 // behind it.
@@ -25,8 +36,8 @@ fn is_used(answer: Rewrite, n: u8, rule: Rule, out: &[u8]) -> bool
         return false;
     };
     let right = side(rule, 128);
-    length == bytes::scan::find(&right, 0, 128, 0)
-        && check::same(out, &right)
+    length == size_of(&right)
+        && out == right.as_slice()
         && have_same_sides(rule, listed::rule(n, family, i, j))
 }
 
@@ -39,7 +50,7 @@ fn is_rewritten(n: u8, rule: Rule) -> bool
     }
     let left = side(rule, 0);
     let mut out = [0; 128];
-    let k = bytes::scan::find(&left, 0, 128, 0);
+    let k = size_of(&left);
     let answer = rewriter::rewrite_at(3, n, &left[0..k], 0, &mut out);
     is_used(answer, n, rule, &out)
 }
@@ -107,18 +118,17 @@ fn wrong() -> u64 {
     std::num::wrapping_add_u64(is_rewritten(5, rule) as u64, is_published(5, rule) as u64)
 }
 
-fn report(name: &[u8], held: u64) {
-    io::write_all(STDOUT_FILENO, name);
-    io::print_decimal(STDOUT_FILENO, held);
-    io::write_all(STDOUT_FILENO, b" rules\n");
+fn report(rt: &impl Print, name: &str, held: u64) -> io::Result<()> {
+    println!(rt; "{name}{held} rules")
 }
 
-fn main() {
-    report(b"CP(4), rewritten: ", count(true, 4, 4));
-    report(b"CP(n), rewritten, n = 4 to 64: ", count(true, 4, 64));
+fn main(rt: HostRuntime) -> io::Result<()> {
+    report(&rt, "CP(4), rewritten: ", count(true, 4, 4))?;
+    report(&rt, "CP(n), rewritten, n = 4 to 64: ", count(true, 4, 64))?;
     report(
-        b"D rules, found in CP(n), n = 4 to 64: ",
+        &rt,
+        "D rules, found in CP(n), n = 4 to 64: ",
         count(false, 4, 64),
-    );
-    report(b"Wrong on purpose: ", wrong());
+    )?;
+    report(&rt, "Wrong on purpose: ", wrong())
 }
