@@ -93,6 +93,12 @@ pub checked_preset_of : (ed : Edition) (m : List ℕ) (i : ℕ) {o k n l r : ℕ
 unfolding checked_preset preset_at
 checked_preset_of ed m i e f p q g = rw (e, f, p, q, g)
 
+-- two books whose preset i has one refusal, one offset and one record
+checked_preset_same : (ed : Edition) (l m : List ℕ) (i : ℕ) {o : ℕ} → preset_refusal ed l i ≡ preset_refusal ed m i → offset l i ≡ o → offset m i ≡ o
+    → kind_at l o ≡ kind_at m o → rank_at l o ≡ rank_at m o → letter_count_at ed l o ≡ letter_count_at ed m o → checked_preset ed l i ≡ checked_preset ed m i
+unfolding checked_preset preset_at
+checked_preset_same ed l m i e f g p q r = rw (e, f, g, p, q, r)
+
 pub letters_of_of : (ed : Edition) (m : List ℕ) (i o r : ℕ) (u : List ℕ) → preset_refusal ed m i ≡ r → offset m i ≡ o → letters_at ed m o ≡ u
     → letters_of ed m i ≡ pick (eqb r 0) u []
 unfolding letters_of

@@ -10,16 +10,17 @@ use Prim.Native.Nat.{ℕ, ◌≤◌}
 use native.Mathlib.Decide.{ℕ_discrete}
 use native.Mathlib.Omega.{arith}
 use lib.IntN.{ℤ}
+use borrow.Author.Tests.{ne_eqb}
 use lib.ListN.{length, drop, take-append-drop}
 use Rattle.coxeter.specs.declared.Answer.TheVariants.{Length, Refused}
 use Rattle.coxeter.specs.Kinds.{kind_of}
 use Rattle.coxeter.specs.Checks.{check, ◌then◌, too_short, rank_refusal, window_refusal, WindowOf}
-use Rattle.coxeter.specs.Calls.{writes}
+use Rattle.coxeter.specs.Calls.{answer_of, written, writes}
 use Rattle.coxeter.proofs.Refusals.{then_zero, then_none, then_some, check_le, then_le, rank_refusal_le, window_refusal_le, check_avoids, then_exactly}
 use Rattle.coxeter.proofs.Writes.{wrote}
 use Rattle.coxeter.proofs.AnswersExactly.{answer_of_exactly}
 use Rattle.shortest_words.specs.Allowed.{wrong_set, set_refusal}
-use Rattle.shortest_words.specs.BetweenCalls.{unreachable, between_refusal}
+use Rattle.shortest_words.specs.BetweenCalls.{unreachable, between_refusal, between_windows}
 
 -- ---- checks one after another
 
@@ -80,3 +81,11 @@ pub writes-length : (q : ℕ) (l out : List ℕ) (m : ℕ) → (writes q l out).
 writes-length q l out m e =
     let w = wrote q l out (writes q l out).bytes m (sym e, refl) in
     (w.unrefused, w.size, sym (take-append-drop m (writes q l out).bytes) ∙ rw (w.front, w.behind))
+
+-- ---- kinds and ranks that are refused
+
+-- a call that checks 5 and 6 refuse depends on nothing else of its kind and rank
+pub between_alike : (k n l m set : ℕ) (v w : List ℤ) (out : List ℕ) → rank_refusal l m ≡ rank_refusal k n → (rank_refusal k n ≡ 0 → ⊥)
+    → between_windows l m set v w out ≡ between_windows k n set v w out
+unfolding between_windows between_refusal set_refusal writes answer_of written
+between_alike k n l m set v w out e f = simp (e, ne_eqb (rank_refusal k n) 0 f)
