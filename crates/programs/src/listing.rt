@@ -1,12 +1,12 @@
 // A book listed on standard output.
-use crate::streams::{input_ended, print};
+use crate::streams::{input_ended, print, read_full};
 use book::Edition;
-use libc::STDIN_FILENO;
 use listing_lines::next_piece;
+use std::io::{Eprint, Input, Print, Read};
 
 // The listing of a book, in pieces of at most 65,536 bytes, which is room for every line. It ends when no line is left
 // and when a write fails.
-fn print_book(edition: Edition, book: &[u8]) {
+fn print_book<R: Print + Eprint>(rt: &R, edition: Edition, book: &[u8]) {
     let mut out = io::large_buffer();
     let mut first = 0;
     loop {
@@ -14,7 +14,7 @@ fn print_book(edition: Edition, book: &[u8]) {
         let next = piece.next;
         let end = piece.end;
         let left = piece.left;
-        if !print(&out[..end]) {
+        if !print(rt, &out[..end]) {
             return;
         }
         if left == 0 {
@@ -24,17 +24,18 @@ fn print_book(edition: Edition, book: &[u8]) {
     }
 }
 
-// P1, P2, P12: lists the book that an open file holds. If it cannot be read to its end nothing is listed: every
-// listing has a first line.
-pub fn list_from(fd: i32, edition: Edition) {
+// P1, P2, P12: lists the book that a reader, as an open file, gives. If it cannot be read to its end nothing is listed:
+// every listing has a first line.
+pub fn list_from<R: Print + Eprint, S: Read>(rt: &R, reader: &mut S, edition: Edition) {
     let mut bytes = io::large_buffer();
-    let n = io::read_full(fd, &mut bytes);
-    if input_ended(fd, &bytes, n) {
-        print_book(edition, &bytes[..n]);
+    let n = read_full(reader, &mut bytes);
+    if input_ended(rt, reader, &bytes, n) {
+        print_book(rt, edition, &bytes[..n]);
     }
 }
 
 // P1, P2: lists the book on standard input.
-pub fn list(edition: Edition) {
-    list_from(STDIN_FILENO, edition);
+pub fn list<R: Input + Print + Eprint>(rt: &R, edition: Edition) {
+    let mut reader = rt.reader();
+    list_from(rt, &mut reader, edition);
 }
