@@ -1,6 +1,8 @@
 // Converts the preset book of the first edition on standard input to one of the second.
+#![tactic(auto)]
+
 use programs::Edition;
 
-fn main() {
-    programs::convert(Edition::First);
+fn main(rt: HostRuntime) {
+    programs::convert(&rt, Edition::First);
 }
