@@ -1,5 +1,5 @@
 //! Compiles `src/straight.cpp` with the C++ compiler, `c++` or what `CXX` names, at -O2. If `WINNATHEY_BEFORE` names a
-//! clone of the repository at an earlier commit in which `rt staticlib c_api` was run, its archive is linked as well, under
+//! clone of the repository at an earlier commit in which `make` was run, its archive is linked as well, under
 //! names that begin with `before_`, with its own Rust interface. If `WINNATHEY_ORDER` is a number, all functions are laid
 //! out in the order that the linker, lld, makes of that number.
 use std::env;
@@ -42,7 +42,10 @@ fn compile(folder: &Path) {
 }
 
 fn link_before(clone: &Path, folder: &Path) {
-    let (from, to) = (clone.join("target/staticlib/libc_api.a"), folder.join("libbefore.a"));
+    let archives = ["libwinnathey.a", "libc_api.a"]; // the second until 1.0.0
+    let from = archives.map(|name| clone.join("target/staticlib").join(name)).into_iter().find(|file| file.exists());
+    let from = from.unwrap_or_else(|| panic!("{} has no target/staticlib with one of {archives:?}", clone.display()));
+    let to = folder.join("libbefore.a");
     let folders = ["bindings/rust", "outside/winnathey"]; // the second until 0.9.0
     let interface = folders.map(|folder| clone.join(folder).join("src/raw.rs")).into_iter().find(|file| file.exists());
     let interface = interface.unwrap_or_else(|| panic!("{} has no src/raw.rs in {folders:?}", clone.display()));

@@ -1,5 +1,5 @@
-//! Links the proved library. It is looked for at the path in `WINNATHEY_LIB`, where `rt staticlib c_api` writes it in
-//! this repository, and by pkg-config; what was looked at is reported if there is none. What is no archive, or one for
+//! Links the proved library. It is looked for at the path in `WINNATHEY_LIB`, where `packaging/module` writes it in this
+//! repository, and by pkg-config; what was looked at is reported if there is none. What is no archive, or one for
 //! another machine or system, is an error here and not in the linker.
 use std::env;
 use std::fs;
@@ -22,11 +22,11 @@ fn found() -> Result<PathBuf, String> {
         return named.canonicalize().map_err(|error| format!("WINNATHEY_LIB is {}: {error}", named.display()));
     }
     let here = PathBuf::from(env::var_os("CARGO_MANIFEST_DIR").expect("cargo sets it"));
-    let built = here.join("../../target/staticlib/libc_api.a");
+    let built = here.join("../../target/staticlib/libwinnathey.a");
     println!("cargo::rerun-if-changed={}", built.display());
     built.canonicalize().ok().or_else(installed).ok_or_else(|| {
         "the library was not found: set WINNATHEY_LIB to libwinnathey.a, or install the package so that pkg-config knows \
-         winnathey, or run `rt staticlib c_api` in the repository"
+         winnathey, or run `make` in the repository"
             .to_string()
     })
 }
