@@ -16,7 +16,7 @@ uninstall: ## removes what was installed there, and nothing else
 packages: ## writes every package to target/package
 	@packaging/package
 
-check: ## the gate: proves everything from nothing and runs every test
+check: ## the gate: proves everything and runs every test
 	@.ci/run
 
 help: ## this text
