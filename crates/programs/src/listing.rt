@@ -26,16 +26,16 @@ fn print_book<R: Print + Eprint>(rt: &R, edition: Edition, book: &[u8]) {
 
 // P1, P2, P12: lists the book that a reader, as an open file, gives. If it cannot be read to its end nothing is listed:
 // every listing has a first line.
-pub fn list_from<R: Print + Eprint, S: Read>(rt: &R, reader: &mut S, edition: Edition) {
+pub fn list_from<R: Print + Eprint, S: Read + Drop>(rt: &R, reader: S, edition: Edition) {
+    let mut reader = reader;
     let mut bytes = io::large_buffer();
-    let n = read_full(reader, &mut bytes);
-    if input_ended(rt, reader, &bytes, n) {
+    let n = read_full(&mut reader, &mut bytes);
+    if input_ended(rt, &mut reader, &bytes, n) {
         print_book(rt, edition, &bytes[..n]);
     }
 }
 
 // P1, P2: lists the book on standard input.
 pub fn list<R: Input + Print + Eprint>(rt: &R, edition: Edition) {
-    let mut reader = rt.reader();
-    list_from(rt, &mut reader, edition);
+    list_from(rt, rt.reader(), edition);
 }

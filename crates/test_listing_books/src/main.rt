@@ -27,7 +27,7 @@ fn list_file(rt: &HostRuntime, name: &[u8]) {
     let _ = rt.write_all(name);
     let _ = rt.write_all(b"\n");
     match open(rt, name) {
-        Ok(mut file) => programs::list_from(rt, &mut file, edition_of(name)),
+        Ok(file) => programs::list_from(rt, file, edition_of(name)),
         Err(error) => {
             let _ = rt.stderr().write_all(name);
             let _ = eprintln!(rt; ": {error}");
