@@ -5,24 +5,29 @@ import subprocess
 
 AWK = ".ci/no-public-requires.awk"
 
-# what a name may have beside ASCII: at its end, anywhere, and as its first letter, before nothing, the s of a plural or a hyphen
-ENDS, INSIDE, FIRST = "₀₁₂₃₄₅₆₇₈₉′″‴‵", "·ℕℤᴰ⁻¹→↔≡≢≤⊎⊢∗", "ΓΛαβγκλμτℓ𝓔𝓖𝓜𝓡𝓣𝓤"
+# what a name may have beside ASCII: at its end, anywhere, and as its first letter, before nothing, the s of a plural, a prime or what joins a further name
+ENDS, INSIDE, FIRST = "₀₁₂₃₄₅₆₇₈₉‵", "◌ℕℤᴰˢ⁻¹→↔≡≢≤⊎⊢∗", "ΓΛαβγκλμτℓ𝓔𝓖𝓛𝓜𝓡𝓣𝓤"
 # signs that stand beside no letter, and what comments and sentences have beside all these
-ALONE, PROSE = "×∙∵∷⊛⊥⋆←↦⌜⌝⟦⟧«»", "éⁿ²−≥…"
+ALONE, PROSE = "×∙∵∷⊛⊥⋆←↦⌜⌝⟦⟧«»", "·éⁿ²−≥…"
 STRANGE = re.compile(rf"[^\n -~{ENDS}{INSIDE}{FIRST}{ALONE}{PROSE}]")
 BREAKS = r"""\s(){}.;,@"«»⌜⌝⟦⟧\[\]"""
 WORD = re.compile(rf"[^{BREAKS}]*[^{BREAKS}\x00-\x7f][^{BREAKS}]*")
-NAME = re.compile(rf"(?:[!-~{INSIDE}]*|[{FIRST}](?:s|-[!-~]*)?)[{ENDS}]*|[{ALONE}{INSIDE}_]+")
+NAME = re.compile(rf"(?:[!-~{INSIDE}]*|[{FIRST}](?:s|'|[-_][!-~]*)?)[{ENDS}]*|[{ALONE}{INSIDE}_]+")
 
 BLOCK = re.compile(r"\{-|-\}|/\*|\*/")
 # of antt: a comment is a whole line, a text ends on its line
 COMMENT, TEXT = re.compile(r"(?m)^ *--(?: .*)?$"), re.compile(r'"(?:[^"\\\n]|\\.)*"')
-UNUSED_ANTT = re.compile(r'--.*|["«].*|\b(?:mutual|axiom|package|ruleset|deriving)\b(?![-\w])|(?<![\w.·-])(?:open|using|renaming|hiding)(?![\w.·-])')
+UNUSED_ANTT = re.compile(r"""--.*|["«].*|\b(?:mutual|axiom|package|ruleset|deriving|pattern)\b(?![-\w])""")
+# an open brings names: it stands in no file of statements, nor in one that could be; the proof of a function, in a folder of its own, may have it
+OPENED, OF_FUNCTION = re.compile(r"(?<![\w.-])(?:open|using|renaming|hiding)(?![\w.-])"), re.compile(r"crates/\w+/proofs/.+/\w+\.antt")
 # of Rattle: a comment, a text, which may go on behind a backslash at the end of a line, and a character
 BLANKED = re.compile(r"""(?s)//[^\n]*|"(?:[^"\\\n]|\\.)*"|'(?:[^'\\\n]|\\[^'\n]+|\\')'""")
-UNUSED = re.compile(r"""\b(?:impl|trait|unsafe|static|type|async|union|dyn|macro_rules)\b|\w!(?!=)|--|#(?!\[no_mangle\]\n).*|(?<!"C)"(?!C")""")
+# attributes have lines of their own: for C, what the language derives, and where and how a proof is sought
+ATTRIBUTE = re.compile(r"""(?mx)^[ ]*(?:\#\[unsafe\(no_mangle\)\] | \#\[derive\((?:DERIVED)(?:,[ ](?:DERIVED))*\)\] | \#\[cycle\(\w+\)\] | \#!?\[tactic\([^\n"]*\)\])$"""
+                       .replace("DERIVED", "Clone|Copy|Debug|Default|Drop|Eq|Hash|Ord|PartialEq|PartialOrd"))
+UNUSED = re.compile(r"""\b(?:impl|trait|unsafe|static|type|async|union|dyn|macro_rules)\b|\w!(?!=)|--|#.*|(?<!"C)"(?!C")""")
 # every item begins its line and has one of these forms, and their words stand nowhere else
-ITEM = re.compile(r"""(?m)^ *(?:(?:pub(?:\(crate\))? )?(?:(?:fn|extern "C" fn|enum|struct) \w|const \w+:|mod \w+;$|use [\w:]+;$)|ghost use \S|pub(?:\(crate\))? \w+: )""")
+ITEM = re.compile(r"""(?m)^ *(?:(?:pub(?:\(crate\))? )?(?:(?:fn|extern "C" fn|enum|struct) \w|const \w+:|mod \w+;$|use [\w:]+(?:::\{\s*[\w:]+(?:,\s*[\w:]+)*,?\s*\})?;$)|ghost use \S|pub(?:\(crate\))? \w+: )""")
 BEGINS = re.compile(r"\b(?:fn|enum|struct|const|mod|use|ghost|pub|extern)\b")
 
 
@@ -42,7 +47,8 @@ def wrong_forms(path, source):
     code = ""
     if path.endswith(".antt"):
         code = TEXT.sub(spaces, COMMENT.sub(spaces, source))
-        faults += [(found.start(), f"{found.group()}: a form that is not in use") for found in UNUSED_ANTT.finditer(code)]
+        unused = [UNUSED_ANTT] if OF_FUNCTION.fullmatch(path) else [UNUSED_ANTT, OPENED]
+        faults += [(found.start(), f"{found.group()}: a form that is not in use") for form in unused for found in form.finditer(code)]
     elif path.endswith(".rt"):
         code = blank(source)
         faults += _rattle(source, code)
@@ -60,7 +66,7 @@ def _rattle(source, code):
             yield found.start(), "a comment has lines of its own, which begin with // and a space"
         if not text.startswith("//") and (re.search(r"\n *//", text) or re.search(r"[\w#]*$", source[line:found.start()]).group() not in ("", "b")):
             yield found.start(), f"{text}: a text of a form that is not in use"
-    for found in UNUSED.finditer(code):
+    for found in UNUSED.finditer(ATTRIBUTE.sub(spaces, code)):
         yield found.start(), f"{found.group()}: a form that is not in use"
     items = [found.span() for found in ITEM.finditer(code)]
     within = {place for start, end in items for place in range(start, end)}

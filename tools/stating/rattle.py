@@ -51,7 +51,10 @@ class File:
         self.functions, self.types = [], []
         ghosts = "\n".join(" ".join(g.split()) for g in re.findall(r"(?ms)^\s*(?:pub )?ghost (use .*?);", self.code))
         self.ghosts = AnttFile(path, ghosts).uses
-        self.imports = {path.split("::")[-1]: path for path in re.findall(r"(?m)^\s*(?:pub )?use ([\w:]+);", self.code)}
+        self.imports = {}
+        for path, names in re.findall(r"(?m)^\s*(?:pub )?use ([\w:]+?)(?:::\{([\w:,\s]*)\})?;", self.code):
+            whole = [f"{path}::{name}" for name in re.findall(r"[\w:]+", names)] if names else [path]
+            self.imports.update((one.split("::")[-1], one) for one in whole)
         for item in ITEM.finditer(self.code):
             # what C can call is public, whether it says so or not
             public = item.group(1).strip() == "pub" or "extern" in item.group(2)
@@ -81,7 +84,8 @@ class File:
         array = re.compile(r"\s*->\s*(?=\[)").match(self.code, behind)
         clauses, place, end = [], closing(self.code, array.end()) if array else behind, behind
         while True:
-            brace = re.compile(r"\b(requires|ensures|measure|decreases)\s*\{|[{;]").search(self.code, place)
+            # a clause may have a name
+            brace = re.compile(r"\b(requires|ensures)\b\*?\s*(?:\w+\s*)?\{|[{;]").search(self.code, place)
             if brace is None:
                 break
             end = brace.start()

@@ -117,7 +117,7 @@ class Reader:
             elif text == ".":
                 n = self._projection(items, n)
                 continue
-            elif n + 2 < len(items) and self._is_dot(items, n) and item.name not in env:
+            elif n + 2 < len(items) and self._is_dot(items, n) and item.name not in env and self.scope.is_module(item.name):
                 other = items[n + 2]
                 self._take(item, lambda: self.scope.qualified(item.name, other.name))
                 n += 3

@@ -7,10 +7,10 @@ from antt import result_of
 from citations import CITATIONS, NAMES_BLOCK, SENTENCES, SETTLES, SPECIFICATION, citations_of, sections_of
 from crates import wrong_crates
 from edits import edits_of
-from forms import AWK
+from forms import AWK, OF_FUNCTION
 from pinning import Pinning, key_of
 from reading import Reader
-from scope import Fields, Scope, covering
+from scope import RESULT, Fields, Scope, covering, module_of
 from specification import wrong_calls, wrong_table
 from world import World
 
@@ -241,12 +241,14 @@ class Builder:
     def _plain(self, path, file):
         """Nothing in the file may make a word of it mean something else than it seems."""
         own = {declared.name for declared in file.declarations}
+        self.model.wrong += [f"{path}: a file of a function's proof has no statements"] if OF_FUNCTION.fullmatch(path) else []
         self.model.wrong += [f"{path}:{line}: cannot read {text}" for line, text in file.unread]
         self.model.wrong += [f"{path}:{line}: {said}" for line, said in covering(file.uses)]
         self.model.wrong += [f"{path}:{line}: a module {name} below a file of statements" for line, name in file.modules]
         self.model.wrong += [f"{path}:{line}: another fixity for {name}" for name, line, _ in file.fixities if name not in own]
         if path.split("/")[2] == "specs":
-            self.model.wrong += [f"{path}:{use.line}: a file of specs/ imports {use.module}" for use in file.uses if "proofs" in re.split("[.·]", use.module)]
+            self.model.wrong += [f"{path}:{use.line}: a file of specs/ imports {use.module}" for use in file.uses
+                                 if "proofs" in use.module.split(".") and (module_of(use.module) or ("",))[0] != "kit"]
 
     def _vectors(self, citation, name):
         """A table of inputs with their answers, which a law of the same file says agree; or a law."""
@@ -269,8 +271,9 @@ class Builder:
         scope = Scope(self.world, file.path, file.ghosts, [], file)
         reader = Reader(scope, self.fields)
         self.model.wrong += [f"{file.path}:{function.line}: the parameter {one} is spelled like an import" for one in function.parameters if one in scope]
-        for _, clause in function.clauses:
-            reader.statement(clause, function.parameters)
+        self.model.wrong += [f"{file.path}:{function.line}: {RESULT} is spelled like an import"] if RESULT in scope else []
+        for kind, clause in function.clauses:
+            reader.statement(clause, [*function.parameters, RESULT] if kind == "ensures" else function.parameters)
         self.model.wrong += reader.wrong
         comment = "".join(f"// {said}".rstrip() + "\n" for said in function.comment.split("\n") if function.comment)
         self.model.statements["contract", citation.where, name] = Statement("contract", name, file.path, function.line, [], comment + function.text, reader.terms)

@@ -200,7 +200,7 @@ class Writer:
         page.heading(1, "Wrong routers")
         page.add("[All sections](../STATEMENTS.md)", "")
         page.say(f"Each of the {len(self.model.rows)} rows of the table is an input at which a call's definition says otherwise than a wrong router in its place. "
-                 f"That all of them are ruled out is one law, `ruled-out`, under {self._ruling(page)}.")
+                 f"That all of them are ruled out is one law, `ruled_out`, under {self._ruling(page)}.")
         page.add("| Definition | Wrong routers |", "|---|---|")
         for call in dict.fromkeys(row.call for row in self.model.rows):
             links = self._routers(row for row in self.model.rows if row.call == call)
@@ -220,7 +220,7 @@ class Writer:
 
     def _ruling(self, page):
         """The clause where the law stands that rules them all out."""
-        clause = next(clauses[0] for key, clauses in self.model.citing.items() if key[0] == "law" and key[2] == "ruled-out")
+        clause = next(clauses[0] for key, clauses in self.model.citing.items() if key[0] == "law" and key[2] == "ruled_out")
         return page.link([clause.name], page.to(f"docs/statements/{clause.section.name}.md", clause.name.lower()))
 
     # -- the count
