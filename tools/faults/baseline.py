@@ -1,8 +1,8 @@
 """Faults that a baseline shows: statements that differ from those of the version before, and a changelog that tells of others. The copy has the baseline of
 its own sources, so that without a fault nothing differs, and a version in work."""
 CHANGES, THEOREMS, CITED, PINS = "CHANGELOG.md", "crates/coxeter/proofs/Theorems.antt", "docs/statements.txt", "docs/definitions.txt"
-LAW = "coxeter/proofs/Theorems: window-passes"
-WEAKER = (THEOREMS, "~pub window-passes : ", "pub window-passes : ⊥ → ")
+LAW = "coxeter/proofs/Theorems: window_passes"
+WEAKER = (THEOREMS, "~pub window_passes : ", "pub window_passes : ⊥ → ")
 LISTING, PROGRAMS = "crates/programs/src/listing.rt", "crates/programs/src/lib.rt"
 
 
@@ -25,22 +25,22 @@ FAULTS = (
     ("a line for an unchanged law", *said(f"changed law `{LAW}`: it says more."), rf"law `{LAW}` is not changed since"),
     ("a line for a law that is not there", *said("removed law `coxeter/proofs/Theorems: window-fails`: it said nothing."), r"window-fails` is not removed since"),
     ("two lines for one law", WEAKER, said(f"changed law `{LAW}`: it says less.", f"changed law `{LAW}`: it says more."), rf"law `{LAW}` stands twice"),
-    ("a removed definition", "docs/baseline.txt", r"~(definition book_format/specs/Books: )appendRefusal (\w+)\n", r"\g<0>\1appendSize \2\n",
-     r"removed definition `book_format/specs/Books: appendSize`: no line in"),
+    ("a removed definition", "docs/baseline.txt", r"~(definition book_format/specs/Books: )append_refusal (\w+)\n", r"\g<0>\1append_size \2\n",
+     r"removed definition `book_format/specs/Books: append_size`: no line in"),
     ("a changed definition", "crates/coxeter/specs/Kinds.antt", "greatest B = 64", "greatest B = 63", r"changed definition `coxeter/specs/Kinds: greatest`: no line in"),
-    ("a pinned definition that has to be read now", PINS, "  coxeter/proofs/Orders: before-exactly\n", "  primitive: Nothing simpler can be said.\n",
+    ("a pinned definition that has to be read now", PINS, "  coxeter/proofs/Orders: before_exactly\n", "  primitive: Nothing simpler can be said.\n",
      r"changed definition `coxeter/specs/Dictionary: before`: no line in"),
-    ("a definition that fewer laws pin", PINS, "~(coxeter/specs/Kinds: least, greatest\n  coxeter/proofs/Sentences: ranks-of-A), ranks-of-B", r"\1",
+    ("a definition that fewer laws pin", PINS, "~(coxeter/specs/Kinds: least, greatest\n  coxeter/proofs/Sentences: ranks_of_A), ranks_of_B", r"\1",
      r"changed definition `coxeter/specs/Kinds: least`: no line in"),
     ("an added law", CITED, "coxeter/proofs/Inverses: window-reverse", "coxeter/proofs/Inverses: window-reverse, length-inverse",
      r"added law `coxeter/proofs/Inverses: length-inverse`: no line in"),
     ("a renamed contract", (LISTING, "list_from", "list_file"), (PROGRAMS, "list_from", "list_file"), (CITED, "list_from", "list_file"),
      r"(?s)added contract `programs: list_file`: no line in.*removed contract `programs: list_from`: no line in"),
-    ("a clause that another law settles", CITED, "~(\\nO2\\n(?:  .*\\n)*  coxeter/proofs/Order: )before-continuation", r"\1before-higher",
+    ("a clause that another law settles", CITED, "~(\\nO2\\n(?:  .*\\n)*  coxeter/proofs/Order: )before_continuation", r"\1before_higher",
      r"changed clause `O2`: no line in"),
     ("a clause that says more", "docs/SPECIFICATION.md", "~(\\*\\*O2\\*\\*<a [^>]*></a>) ", r"\1 Always and everywhere: ", r"changed clause `O2`: no line in"),
     ("a type with one more case", "crates/book_format/src/lib.rt", "    Second,\n}", "    Second,\n    Third,\n}", r"changed type `book_format: Edition`: no line in"),
-    ("a wrong router that is another", "crates/examples/proofs/WrongChecks.antt", r"~(\nlanesAsTheRank k n) = n", r"\1 = n + 1",
+    ("a wrong router that is another", "crates/examples/proofs/WrongChecks.antt", r"~(\nlanes_as_the_rank k n) = n", r"\1 = n + 1",
      r"changed table `wrong routers`: no line in"),
     ("a baseline with a line that cannot be read", "docs/baseline.txt", "~\\nlaw ", "\nlow ", r"baseline\.txt:\d+: cannot read low"),
     ("a change without a new version", WEAKER, (CHANGES, "\n## In work\n", "\n## In works\n"), rf"changed law `{LAW}`: docs/baseline\.txt is that of this version"),

@@ -1,9 +1,9 @@
 """Faults of scope: words that seem bound, or numerals, and are declared in proofs/."""
 THEOREMS, CITED, FOLLOWS = "crates/coxeter/proofs/Theorems.antt", "docs/statements.txt", "crates/rules/specs/Demand3.antt"
-PASSES = "~pub window-passes : .*"
-LAW = "pub window-passes : (k : Kind) (n : ℕ) (u : List ℕ) → "
+PASSES = "~pub window_passes : .*"
+LAW = "pub window_passes : (k : Kind) (n : ℕ) (u : List ℕ) → "
 WRONG = "crates/examples/proofs/Wrong"
-EMPTY = "-- No demand.\npub Demand3Holds : Type 0\nDemand3Holds = Unit {0}\n\npub demand3-always : Demand3Holds\ndemand3-always = tt\n"
+EMPTY = "-- No demand.\npub Demand3Holds : Type 0\nDemand3Holds = Unit {0}\n\npub demand3_always : Demand3Holds\ndemand3_always = tt\n"
 
 FAULTS = (
     # numerals
@@ -24,18 +24,18 @@ FAULTS = (
      "Demand3Holds s = (k n : ℕ) (u : List ℕ) → (w : ℕ) × w ≡ n →", r"a binder of × ends before →"),
     ("a pair's binder before an arrow, in brackets", THEOREMS, PASSES, LAW + "((w : ℕ) × n < w → w < n) → n ≡ n", r"a binder of × ends before →"),
     # fields
-    ("a field that speaks of a later one", FOLLOWS, "  pub uses-at-most : uses s cs ≤ most\n", "  pub uses-at-most : normal-once ≡ normal-once → uses s cs ≤ most\n",
-     r"cannot resolve the word normal-once"),
-    ("a field that speaks of itself", FOLLOWS, "  pub uses-at-most : uses s cs ≤ most\n", "  pub uses-at-most : uses-at-most ≡ uses-at-most → uses s cs ≤ most\n",
-     r"cannot resolve the word uses-at-most"),
+    ("a field that speaks of a later one", FOLLOWS, "  pub uses-at_most : uses s cs ≤ most\n", "  pub uses-at_most : normal_once ≡ normal_once → uses s cs ≤ most\n",
+     r"cannot resolve the word normal_once"),
+    ("a field that speaks of itself", FOLLOWS, "  pub uses-at_most : uses s cs ≤ most\n", "  pub uses-at_most : uses-at_most ≡ uses-at_most → uses s cs ≤ most\n",
+     r"cannot resolve the word uses-at_most"),
     # imports and binders
-    ("an import of proofs/ in specs/", "crates/coxeter/specs/NormalForm.antt", "use Rattle·coxeter·specs.specs.Dictionary.{shortlex}",
-     "use Rattle·coxeter·specs.specs.Dictionary.{shortlex}\nuse Rattle·coxeter·proofs.proofs.Order as order", r"a file of specs/ imports Rattle·coxeter·proofs\.proofs\.Order"),
-    ("an import of another crate's proofs/ in specs/", FOLLOWS, "~\nuse ", "\nuse Rattle·coxeter.proofs.Order as order\nuse ",
-     r"a file of specs/ imports Rattle·coxeter\.proofs\.Order"),
+    ("an import of proofs/ in specs/", "crates/coxeter/specs/NormalForm.antt", "use Rattle.coxeter.specs.Dictionary.{shortlex}",
+     "use Rattle.coxeter.specs.Dictionary.{shortlex}\nuse Rattle.coxeter.proofs.Order as order", r"a file of specs/ imports Rattle\.coxeter\.proofs\.Order"),
+    ("an import of another crate's proofs/ in specs/", FOLLOWS, "~\nuse ", "\nuse Rattle.coxeter.proofs.Order as order\nuse ",
+     r"a file of specs/ imports Rattle\.coxeter\.proofs\.Order"),
     ("a binder spelled like an import", THEOREMS, PASSES, LAW + "(length : ℕ) → length ≡ length", r"a binder is spelled like length, which the file declares or imports"),
-    ("a binder spelled like a declaration", THEOREMS, PASSES, LAW + "(window-normalForm : ℕ) → n ≡ window-normalForm",
-     r"a binder is spelled like window-normalForm"),
+    ("a binder spelled like a declaration", THEOREMS, PASSES, LAW + "(window-normal_form : ℕ) → n ≡ window-normal_form",
+     r"a binder is spelled like window-normal_form"),
     ("a binder of a λ spelled like an import", THEOREMS, PASSES, LAW + "map (λ length. length) u ≡ u", r"a binder is spelled like length"),
     ("a binder of a let spelled like an import", THEOREMS, PASSES, LAW + "let length = n in length ≡ n", r"a binder is spelled like length"),
     ("a variable of an equation spelled like an import", "crates/coxeter/specs/NormalForm.antt", "~(\\nuse [^\\n]*Dictionary[^\\n]*\\n)((?s:.*?))(\\nrise )(\\w+)",
@@ -46,11 +46,11 @@ FAULTS = (
      "pub fn window_of_word(kind: u8, shortlex: u8, word: &[u8],", r"the parameter shortlex is spelled like an import"),
     # wrong routers
     ("a file of wrong routers that is not in the list", (f"{WRONG}Demand.antt", None, EMPTY),
-     (CITED, "  rules/proofs/Demand3: demand3\n", "  examples/proofs/WrongDemand: demand3-always\n"), r"rests on Demand3Holds, which .*WrongDemand\.antt"),
+     (CITED, "  rules/proofs/Demand3: demand3\n", "  examples/proofs/WrongDemand: demand3_always\n"), r"rests on Demand3Holds, which .*WrongDemand\.antt"),
     ("a wrong router's law for a clause of demand 3", (f"{WRONG}Routers.antt", "~\\Z", "\n" + EMPTY),
-     (CITED, "  rules/proofs/Demand3: demand3\n", "  examples/proofs/WrongRouters: demand3-always\n"), r"D9 cites examples/proofs/WrongRouters, which only section Q may"),
+     (CITED, "  rules/proofs/Demand3: demand3\n", "  examples/proofs/WrongRouters: demand3_always\n"), r"D9 cites examples/proofs/WrongRouters, which only section Q may"),
     ("a law over a wrong router's definition", (f"{WRONG}Routers.antt", "~\\Z", "\n" + EMPTY),
-     (THEOREMS, "use lib.ListN.{length}", "use lib.ListN.{length}\nuse Rattle·examples·proofs.proofs.WrongRouters.{Demand3Holds}"),
+     (THEOREMS, "use lib.ListN.{length}", "use lib.ListN.{length}\nuse Rattle.examples.proofs.WrongRouters.{Demand3Holds}"),
      (THEOREMS, PASSES, LAW + "Demand3Holds"), r"rests on Demand3Holds, which .*WrongRouters\.antt"),
     ("a file of wrong routers that is lost", f"{WRONG}Tables.antt", "~(?s).*", None, r"WrongTables\.antt is missing"),
 )
