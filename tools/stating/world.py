@@ -9,14 +9,21 @@ from forms import counted_by_awk, wrong_forms
 LISTS = ["docs/statements.txt", "docs/definitions.txt"]
 
 
+def below(crates):
+    """The files of the crates, without what `rt` makes: that lies in a folder out/ of each crate."""
+    for folder, folders, names in os.walk(crates):
+        if os.path.dirname(folder) == crates and "out" in folders:
+            folders.remove("out")
+        yield from (os.path.join(folder, name) for name in names)
+
+
 class World:
     read_files = {}  # what was made of a path and a text, for as long as the program runs
 
     def __init__(self, root):
         self.root = root
         self.crates = sorted(os.path.basename(path) for path in glob.glob(f"{root}/crates/*") if os.path.isdir(path))
-        self.sources = sorted(os.path.relpath(os.path.join(folder, name), root) for folder, _, names in os.walk(f"{root}/crates") for name in names
-                              if name.endswith((".antt", ".rt", ".edit")))
+        self.sources = sorted(os.path.relpath(path, root) for path in below(f"{root}/crates") if path.endswith((".antt", ".rt", ".edit")))
         self._antt, self._rattle = {}, {}
 
     def read(self, path):
