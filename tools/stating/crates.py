@@ -6,8 +6,8 @@ OTHERS = {"bindings, command, page"}  # what the picture names beside the crates
 
 
 def listed(world):
-    """The crates of crates.txt, in its order, the lowest first."""
-    return [line.split(":")[0].strip() for line in world.read(LIST).split("\n") if ":" in line and not line.startswith("#")]
+    """The crates of crates.txt, in its order, the lowest first. Words may stand behind a name, as `staticlib`."""
+    return [line.split(":")[0].split()[0] for line in world.read(LIST).split("\n") if ":" in line and not line.startswith("#")]
 
 
 def wrong_crates(world):
