@@ -1,5 +1,7 @@
 """Faults that a baseline shows: statements that differ from those of the version before, and a changelog that tells of others. The copy has the baseline of
 its own sources, so that without a fault nothing differs, and a version in work."""
+import re
+
 CHANGES, THEOREMS, CITED, PINS = "CHANGELOG.md", "crates/coxeter/proofs/Theorems.antt", "docs/statements.txt", "docs/definitions.txt"
 LAW = "coxeter/proofs/Theorems: window_passes"
 WEAKER = (THEOREMS, "~pub window_passes : ", "pub window_passes : ⊥ → ")
@@ -7,8 +9,10 @@ LISTING, PROGRAMS = "crates/programs/src/listing.rt", "crates/programs/src/lib.r
 
 
 def in_work(changelog):
-    """The changelog with a version in work."""
-    return changelog if "\n## In work\n" in changelog else changelog.replace("\n## ", "\n## In work\n\n- Nothing yet.\n\n## ", 1)
+    """The changelog with a version in work, which tells of no statement yet."""
+    if "\n## In work\n" not in changelog:
+        return changelog.replace("\n## ", "\n## In work\n\n- Nothing yet.\n\n## ", 1)
+    return re.sub(r"(?s)(\n## In work\n(?:(?!\n## ).)*?\n### Statements\n).*?(?=\n## |\Z)", r"\1", changelog, count=1)
 
 
 def said(*lines):
