@@ -25,7 +25,9 @@ BLANKED = re.compile(r"""(?s)//[^\n]*|"(?:[^"\\\n]|\\.)*"|'(?:[^'\\\n]|\\[^'\n]+
 # attributes have lines of their own: for C, what the language derives, and where and how a proof is sought
 ATTRIBUTE = re.compile(r"""(?mx)^[ ]*(?:\#\[unsafe\(no_mangle\)\] | \#\[derive\((?:DERIVED)(?:,[ ](?:DERIVED))*\)\] | \#\[cycle\(\w+\)\] | \#!?\[tactic\([^\n"]*\)\])$"""
                        .replace("DERIVED", "Clone|Copy|Debug|Default|Drop|Eq|Hash|Ord|PartialEq|PartialOrd"))
-UNUSED = re.compile(r"""\b(?:impl|trait|unsafe|static|type|async|union|dyn|macro_rules)\b|\w!(?!=)|--|#.*|(?<!"C)"(?!C")""")
+# the kit's macros, under whose names no other can stand: they write code within a function
+MACRO = re.compile(r"\b(?:e?print(?:ln)?|format|vec|write(?:ln)?|prove(?:_eq|_ne)?|assert(?:_eq|_ne)?|matches)!(?=[(\[])")
+UNUSED = re.compile(r"""(?<!&)\bimpl\b|\b(?:trait|unsafe|static|type|async|union|dyn|macro_rules)\b|\w!(?!=)|--|#.*|(?<!"C)"(?!C")""")
 # every item begins its line and has one of these forms, and their words stand nowhere else
 ITEM = re.compile(r"""(?m)^ *(?:(?:pub(?:\(crate\))? )?(?:(?:fn|extern "C" fn|enum|struct) \w|const \w+:|mod \w+;$|use [\w:]+(?:::\{\s*[\w:]+(?:,\s*[\w:]+)*,?\s*\})?;$)|ghost use \S|pub(?:\(crate\))? \w+: )""")
 BEGINS = re.compile(r"\b(?:fn|enum|struct|const|mod|use|ghost|pub|extern)\b")
@@ -66,7 +68,7 @@ def _rattle(source, code):
             yield found.start(), "a comment has lines of its own, which begin with // and a space"
         if not text.startswith("//") and (re.search(r"\n *//", text) or re.search(r"[\w#]*$", source[line:found.start()]).group() not in ("", "b")):
             yield found.start(), f"{text}: a text of a form that is not in use"
-    for found in UNUSED.finditer(ATTRIBUTE.sub(spaces, code)):
+    for found in UNUSED.finditer(MACRO.sub(spaces, ATTRIBUTE.sub(spaces, code))):
         yield found.start(), f"{found.group()}: a form that is not in use"
     items = [found.span() for found in ITEM.finditer(code)]
     within = {place for start, end in items for place in range(start, end)}

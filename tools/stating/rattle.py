@@ -44,6 +44,18 @@ def closing(code, at):
     return len(code)
 
 
+def behind_types(code, at):
+    """The place behind the type parameters that begin at this place, if any do."""
+    if not re.compile(r"\s*<").match(code, at):
+        return at
+    depth = 0
+    for sign in re.compile(r"->|[<>]").finditer(code, at):
+        depth += (sign.group() == "<") - (sign.group() == ">")
+        if depth == 0:
+            return sign.end()
+    return at
+
+
 class File:
     def __init__(self, path, source):
         self.path, self.source = path, source
@@ -77,7 +89,7 @@ class File:
         return "\n".join(reversed(said))
 
     def _function(self, start, at, name, public, line):
-        opening = self.code.index("(", at)
+        opening = self.code.index("(", behind_types(self.code, at))
         behind = closing(self.code, opening)
         parameters = re.findall(r"(?:^|,)\s*(?:mut )?(\w+)\s*:", self.code[opening + 1: behind - 1])
         # an array that is the result has a semicolon of its own

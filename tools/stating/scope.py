@@ -15,7 +15,7 @@ KIT_CRATES = {"std"}
 PLACE = "◌"  # where an argument of an operator stands in its name
 NUMERAL = re.compile(r"[0-9](?:_?[0-9])*|0x[0-9a-fA-F](?:_?[0-9a-fA-F])*|0o[0-7](?:_?[0-7])*|0b[01](?:_?[01])*")
 # constructors of the kit that a pattern may name
-KIT_CONSTRUCTORS = {"zero", "suc", "[]", "◌∷◌", "true", "false", "pos", "negsuc", "none", "some"}
+KIT_CONSTRUCTORS = {"zero", "suc", "[]", "◌∷◌", "true", "false", "pos", "negsuc", "none", "some", "None", "Some", "Ok", "Err"}
 
 
 class Term(NamedTuple):
