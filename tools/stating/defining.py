@@ -150,7 +150,8 @@ class Definitions:
             if term.kind == "kit":
                 words.setdefault(term.crate, set()).add(term.name)
         index.heading(2, "Words of the kit")
-        index.say("What statements and definitions take from the kit, by its modules. Built in are `→`, `×`, `Type`, `Unit`, `⊥` and, in contracts, `now`.")
+        index.say("What statements and definitions take from the kit, by its modules. Built in are `→`, `×`, `¬`, `Type`, `Unit`, `⊥` and, in contracts, "
+                  "`result`; of what is lent there are the fields `now`, `old`, `new`, `entry`, `exit` and `ref_ptr`.")
         index.add("| Module | Words |", "|---|---|")
         for module in sorted(words):
             index.add(f"| {module} | {', '.join(f'`{name}`'.replace('|', chr(92) + '|') for name in sorted(words[module]))} |")
