@@ -41,7 +41,7 @@ FAULTS = (
     ("an attribute on the line of its item", WINDOW, ABOVE, f"#[derive(Drop)] struct Hidden;\n\n{ABOVE}", r"#\[derive\(Drop\)\] struct Hidden;: a form that is not in use"),
     ("a derive of a macro", WINDOW, ABOVE, f"#[derive(Hidden)]\nstruct Other;\n\n{ABOVE}", r"#\[derive\(Hidden\)\]: a form that is not in use"),
     ("a macro", WINDOW, "    let m = v.len();", "    let m = lens!(v);", r"s!: a form that is not in use"),
-    ("a function for C that only its attribute shows", "crates/c_api/src/words.rt", "#[unsafe(no_mangle)]", f"#[unsafe(no_mangle)]\nfn {HIDDEN}#[unsafe(no_mangle)]",
+    ("a function for C that only its attribute shows", "crates/c_api_c/src/words.rt", "#[unsafe(no_mangle)]", f"#[unsafe(no_mangle)]\nfn {HIDDEN}#[unsafe(no_mangle)]",
      r"the pages state (\d+) public functions, .* counts: (?!\1\b)\d+"),
     ("a field that covers an imported name", "crates/messages/proofs/Texts.antt", "~$",
      "\nrecord Others : Type 0 where\n  said : ℕ\n\nopen (let all : Others = record { said = 1 } in all) use {said as message}\n", r"open: a form that is not in use"),
