@@ -4,6 +4,7 @@
 const NO_ROOM = [-14, -15];
 const NONE_FITS = -100;
 const NO_FALLBACK = -101;
+const CALLS = 30;
 
 /** The bytes of a book: parts of hexadecimal digits, each repeated if a number stands behind it. */
 function bookOf(text) {
@@ -150,8 +151,8 @@ export function runTable(text, w, Refusal) {
     const counts = { ran: 0, left: 0, large: 0 };
     const calls = new Set();
     const refusals = new Set();
-    const rows = text.trimEnd().split('\n').map(line => JSON.parse(line));
-    for (const row of rows) {
+    for (const line of text.trimEnd().split('\n')) {
+        const row = JSON.parse(line);
         if (NO_ROOM.includes(row.answer)) {
             counts.left++;
             continue;
@@ -179,8 +180,7 @@ export function runTable(text, w, Refusal) {
         calls.add(row.call);
         refusals.add(-due);
     }
-    const skipped = [...new Set(rows.map(row => row.call))].filter(call => !calls.has(call));
-    check(skipped.length === 0, skipped, 'calls of which no row was run');
+    check(calls.size === CALLS, null, 'not every call was run');
     const missing = Array.from({ length: 21 }, (_, i) => i + 1).filter(number => !refusals.has(number));
     check(equal(missing, [14, 15]), missing, 'not every refusal came');
     return counts;
