@@ -217,7 +217,7 @@ class Names:
 def main(argv):
     if argv and argv != ["--table"]:
         print(__doc__)
-        return 2
+        return 0 if argv == ["--help"] else 2
     names = Names(os.getcwd())
     if argv:
         for a, b in sorted(names.table.items()):
