@@ -16,7 +16,7 @@ use Rattle.coxeter.specs.Checks.{negative_in_A}
 use Rattle.coxeter.specs.NormalForm.{block, levels, last_index, index_of, rest_of}
 use Rattle.coxeter.proofs.Basics.{window_from-append}
 use Rattle.coxeter.proofs.Steps.{act-swap, act-B_last, act-D_last}
-use Rattle.coxeter.proofs.LetterRuns.{span, slide, span_nil, span_cons, slide_nil, slide_cons, slide_snoc, rise-span, IsBlock, block_up, block_turn}
+use Rattle.coxeter.proofs.LetterRuns.{span, slide, span_nil, span_cons, slide_nil, slide_cons, slide_snoc, rise-span, Corner, IsBlock, block_up, block_turn}
 use Rattle.coxeter.proofs.Peeling.{rest_of_positive, index_of_positive, index_of-negative}
 
 -- ---- one step
@@ -114,6 +114,11 @@ unfolding block
 block-identity A n i j h = rise-span i j
 block-identity B n i j h = block_up B n i j h
 block-identity D n i j h = block_up D n i j h
+
+pub corner : (k : Kind) (n i : ℕ) → i ≤ levels k n → 1 ≤ i → (c : ℕ) × Corner k n c × (i ≤ c)
+corner A n i l o = (n, refl, l)
+corner B n i l o = (n, refl, l)
+corner D n i l o = (n - 1, omega arith, l)
 
 block_positive : (k : Kind) (n i : ℕ) (u v z : List ℤ) → i ≡ suc (length u) → length v + i ≤ lanes k n
     → window_from k n (u ++ (pos i ∷ (v ++ z))) (block k n i (i + length v - 1)) ≡ u ++ (v ++ (pos i ∷ z))

@@ -32,6 +32,13 @@ record ListedOnce {X : Type 0} (d : X) (P : X → Type 0) (c : ℕ) : Type 0 whe
   exactly : (x : X) → Memᴰ x list ↔ P x
   counted : length list ≡ c
 
+-- a list without repetition whose members are exactly the x with P x, c of them
+record Listed {X : Type 0} (d : X) (P : X → Type 0) (c : ℕ) : Type 0 where
+  list : List X
+  once : (a b : ℕ) → a < b → b < length list → get_or list a d ≡ get_or list b d → ⊥
+  exactly : (x : X) → Memᴰ x list ↔ P x
+  counted : length list ≡ c
+
 pub mem_get_or : {X : Type 0} (l : List X) (i : ℕ) (d : X) → i < length l → Memᴰ (get_or l i d) l
 mem_get_or [] i d h = absurd (omega arith)
 mem_get_or (x ∷ l) zero d h = Memᴰ.head refl

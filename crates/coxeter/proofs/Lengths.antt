@@ -15,7 +15,7 @@ use lib.ListN.{length, length-append}
 use Rattle.coxeter.specs.Kinds.{Kind, A, B, D, pick, lanes}
 use Rattle.coxeter.specs.Windows.{from, negate_first, signed}
 use Rattle.coxeter.specs.Length.{negative, one, negatives, window_length}
-use Rattle.coxeter.specs.Checks.{negative_in_A}
+use Rattle.coxeter.specs.Checks.{has_size, negative_in_A}
 use Rattle.coxeter.specs.NormalForm.{rise, fall, block, levels, last_index, index_of, rest_of, normal_from, normal_form}
 use Rattle.coxeter.proofs.Sizes.{nat_abs-neg_ℤ}
 use Rattle.coxeter.proofs.Levels.{Between, Accepted}
@@ -175,6 +175,14 @@ total_last B n i (x ∷ w) t s = absurd (omega arith)
 total_last D n i [] t s = refl
 total_last D n i (x ∷ []) t s = refl
 total_last D n i (x ∷ y ∷ w) t s = absurd (omega arith)
+
+length-normal_from-suc : {k : Kind} {n : ℕ} (t : ℕ) {i : ℕ} (u : List ℤ) (e : ℤ) (v : List ℤ) → 1 ≤ i → i ≤ levels k n → nat_abs e ≡ i → has_size i u ≡ false
+    → AtLevel k n i (u ++ (e ∷ v))
+    → length (normal_from k n t (suc i) (rest_of k e (u ++ v))) ≡ total k (rest_of k e (u ++ v))
+    → length (normal_from k n (suc t) i (u ++ (e ∷ v))) ≡ total k (u ++ (e ∷ v))
+unfolding normal_from
+length-normal_from-suc {k} {n} t {i} u e v o l q f h below =
+    rw (rest_of_peeled k i u e v o q f, place_from_peeled i i u e v q f, length-append, below) (total_insert u e v o l q h)
 
 length-normal_from : (k : Kind) (n t i : ℕ) (w : List ℤ) → 1 ≤ i → t + i ≡ suc (levels k n) → AtLevel k n i w
     → length (normal_from k n t i w) ≡ pair_weights w + sign_weight k w

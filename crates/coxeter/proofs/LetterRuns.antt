@@ -104,6 +104,17 @@ pub record IsBlock (k : Kind) (n i j : ℕ) : Type 0 where
   pub at_least : i ≤ suc j
   pub at_most : j ≤ last_index k n i
 
+-- the last letter of a block's way up is c − 1; after it come n and the way down
+abbrev pub Corner : Kind → ℕ → ℕ → Type 0
+Corner A n c = c ≡ n
+Corner B n c = c ≡ n
+Corner D n c = c + 1 ≡ n
+
+pub corner_le : (k : Kind) (n c : ℕ) → Corner k n c → c ≤ n
+corner_le A n c e = omega arith
+corner_le B n c e = omega arith
+corner_le D n c e = omega arith
+
 -- before the turn
 pub block_up : (k : Kind) (n i j : ℕ) → j < n → block k n i j ≡ span i (suc j)
 unfolding block
@@ -116,6 +127,9 @@ rise-top n i j d h e f =
     let a : suc j ≡ suc n = omega arith in
     rise-span i j ∙ ap (span i) a ∙ span_snoc i n h
     ∙ sym (ap (λ (l : List ℕ). span i n ++ l) (slide-one (suc n) d (omega arith) ∙ ap (λ (a : ℕ). a ∷ []) f))
+
+only_top : (n c d : ℕ) → c ≡ n → d ≡ n → slide (suc n) d ≡ c ∷ []
+only_top n c d e f = slide-one (suc n) d (omega arith) ∙ ap (λ (a : ℕ). a ∷ []) (omega arith)
 
 down-from-top : (n j d : ℕ) → d + j ≡ 2 * n → 1 ≤ n → n ≤ j → n ∷ fall (n - 1) (2 * n - j) ≡ slide (suc n) d
 down-from-top n j d q o g =

@@ -17,7 +17,7 @@ use Rattle.coxeter.specs.Checks.{wrong_letter}
 use Rattle.coxeter.specs.NormalForm.{down, block, levels, last_index, blocks, Indices, none, level, without, index_of, rest_of, normal_from, normal_form}
 use Rattle.coxeter.proofs.Relations.{wrong_letter-append, wrong_letter_cons}
 use Rattle.coxeter.proofs.Levels.{Accepted}
-use Rattle.coxeter.proofs.LetterRuns.{span, slide, span_nil, IsBlock, block_up, block_turn}
+use Rattle.coxeter.proofs.LetterRuns.{span, slide, span_nil, Corner, corner_le, IsBlock, block_up, block_turn}
 use Rattle.coxeter.proofs.Peeling.{rest_of_positive, levels_le_lanes}
 use Rattle.coxeter.proofs.KindLaws.{levels_le}
 use Rattle.coxeter.proofs.Indices.{indices, window-indices, indices_in_range, indices-window}
@@ -70,6 +70,20 @@ index_le : (k : Kind) (n i j : ℕ) → i ≤ levels k n → j ≤ last_index k 
 index_le A n i j l h = omega arith
 index_le B n i j l h = omega arith
 index_le D n i j l h = omega arith
+
+levels_of_corner : (k : Kind) (n c : ℕ) → Corner k n c → levels k n ≡ c
+levels_of_corner A n c e = omega arith
+levels_of_corner B n c e = omega arith
+levels_of_corner D n c e = omega arith
+
+turned-letters : (k : Kind) (n i j c d : ℕ) → Corner k n c → i ≤ c → n ≤ j → j ≤ last_index k n i → d + j ≡ 2 * n → 1 ≤ i → 1 ≤ d
+    → wrong_letter n (block k n i j) ≡ false
+turned-letters k n i j c d e h g l q o f =
+    let b : c ≤ n = corner_le k n c e in
+    let a : levels k n ≡ c = levels_of_corner k n c e in
+    let t : IsBlock k n i j = omega arith in
+    rw (block_turn d t g q, a, wrong_letter-append n (span i c) (slide (suc n) d), wrong_letter-span n i c o (omega arith) (omega arith))
+    (wrong_letter-slide n (suc n) d f (omega arith))
 
 pub wrong_letter-block : (k : Kind) (n i j : ℕ) → 1 ≤ i → i ≤ levels k n → j ≤ last_index k n i → wrong_letter n (block k n i j) ≡ false
 wrong_letter-block k n i j o l h = elim (dec_le n j) [ yes g ↦ turned g | no g ↦ risen (lt_of_not-le g) ]

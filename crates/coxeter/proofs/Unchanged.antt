@@ -6,21 +6,33 @@
 --
 -- Sections: what every call keeps; what a call with one output keeps; the calls.
 -- Assumes nothing.
-use mathlib.Core.Path.{◌≡◌}
+use mathlib.Core.Path.{◌≡◌, refl}
+use mathlib.Core.Bool.{Bool, true, false}
 use mathlib.Core.List.{List}
 use Prim.Native.Nat.{ℕ}
 use native.Mathlib.Decide.{ℕ_discrete}
+use lib.Dec.{eqb}
 use lib.IntN.{ℤ}
 use lib.ListN.{length, drop, take}
 use Rattle.coxeter.specs.declared.Answer.TheVariants.{Length, Refused}
+use Rattle.coxeter.specs.Kinds.{pick}
 use Rattle.coxeter.specs.Checks.{check, ◌then◌, too_short}
-use Rattle.coxeter.specs.Calls.{written, writes, window_of_word, product_of_windows}
+use Rattle.coxeter.specs.Calls.{front, written, writes, window_of_word, product_of_windows}
 use Rattle.coxeter.specs.Calls.{inverse_of_window, normal_form_of_window, normal_form_of_word, product_of_words, inverse_of_word}
 use Rattle.coxeter.proofs.FrontLaws.{drop-front, take-front}
 use Rattle.coxeter.proofs.AnswersExactly.{answer_of_exactly}
 use borrow.Author.Tests.{eq-eqb, ne_eqb}
 
 -- ---- what every call keeps
+
+by_test : {A Output : Type 0} (t : Bool) (good bad a : A) → pick t good bad ≡ a → (good ≡ a → ⊥) → (new old : Output) → pick t new old ≡ old
+by_test true good bad a h f new old = absurd (f h)
+by_test false good bad a h f new old = refl
+
+by_test_past : {A X : Type 0} (t : Bool) (good bad a : A) → pick t good bad ≡ a → (l out : List X) (m : ℕ) → (good ≡ a → length l ≡ m)
+    → drop m (pick t (front l out) out) ≡ drop m out
+by_test_past true good bad a h l out m f = drop-front l out m (f h)
+by_test_past false good bad a h l out m f = refl
 
 -- a call with the refusal s, 0 for none, that is to write l
 module _ {X : Type 0} (s : ℕ) (l out : List X) where
@@ -38,6 +50,19 @@ module _ {X : Type 0} (s : ℕ) (l out : List X) where
   pub kept_front : {m : ℕ} → length l ≡ m → s ≡ 0 → take m (written s l out) ≡ l
   unfolding written
   kept_front {m} e z = rw (eq-eqb s 0 z) (take-front l out m e)
+
+-- a call with the refusal s, 0 for none, and answers of any sort, of which `good` is the one with no refusal
+module _ {A : Type 0} (s : ℕ) (good : A) (refuse : ℕ → A) where
+  -- any other answer leaves an output as it was lent
+  pub kept_whole_of_pick : {a : A} → pick (eqb s 0) good (refuse s) ≡ a → (good ≡ a → ⊥) → {X : Type 0} (l out : List X) → written s l out ≡ out
+  unfolding written
+  kept_whole_of_pick {a} h f l out = by_test (eqb s 0) good (refuse s) a h f (front l out) out
+
+  -- and so does every answer from the place m on, if the good one says that m entries are written
+  pub kept_past_of_pick : {a : A} → pick (eqb s 0) good (refuse s) ≡ a → {X : Type 0} (l out : List X) (m : ℕ) → (good ≡ a → length l ≡ m)
+      → drop m (written s l out) ≡ drop m out
+  unfolding written
+  kept_past_of_pick {a} h l out m f = by_test_past (eqb s 0) good (refuse s) a h l out m f
 
 -- ---- what a call with one output keeps
 
