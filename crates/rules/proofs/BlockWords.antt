@@ -11,7 +11,7 @@ use Prim.Native.Nat.{ℕ, zero, suc, ◌+◌, ◌-◌, ◌*◌, ◌≤◌, ◌<�
 use native.Mathlib.Nat.{lt_of_not-le}
 use native.Mathlib.Decide.{dec_le}
 use native.Mathlib.Omega.{arith}
-use lib.ListN.{length}
+use lib.ListN.{length, get_or}
 use borrow.Author.Tests.{lt-ltb, le-ltb}
 use Rattle.coxeter.specs.Kinds.{Kind, A, B, D, least}
 use Rattle.coxeter.specs.NormalForm.{block, blocks, Indices, none, level, levels, last_index}
@@ -87,6 +87,11 @@ block-at-least k n i j o g l a m = elim (dec_le n j) [ yes t ↦ after t | no t 
         let q = level_le_last k h l e in
         ⊎_elim (λ s. (mem_span a i (levels k n) s).0) (λ s. let r = mem_slide a (suc n) d s in omega arith)
         (Memᴰ.append_cases (span i (levels k n)) (subst (Memᴰ a) (block_turn d b t e) m))
+
+pub mem_get_or : (l : List ℕ) (i : ℕ) → i < length l → Memᴰ (get_or l i 0) l
+mem_get_or [] i h = absurd (omega arith)
+mem_get_or (a ∷ l) zero h = Memᴰ.head refl
+mem_get_or (a ∷ l) (suc i) h = Memᴰ.tail (mem_get_or l i (omega arith))
 
 -- how long a block of level i can be
 pub block-short : (k : Kind) (n i j : ℕ) → 1 ≤ i → i ≤ levels k n → j ≤ last_index k n i → length (block k n i j) + 2 * i ≤ 2 * n + 1

@@ -1,18 +1,18 @@
 -- A word of steps is a word of blocks, or a rule fits somewhere in it: level by level, each word cut at its first
 -- letter i.
 -- Assumes nothing.
-use mathlib.Core.Path.{◌≡◌, refl, sym, ap, ap₂}
+use mathlib.Core.Path.{◌≡◌, refl, sym, ap, ap₂, ◌∙◌}
 use mathlib.Core.Bool.{false}
 use mathlib.Core.Logic.{◌⊎◌, inl, inr}
 use mathlib.Core.List.{List, [], ◌∷◌, ◌++◌, append_assoc, append-nil, Memᴰ}
-use Prim.Native.Nat.{ℕ, zero, suc, ◌+◌, ◌-◌, ◌≤◌}
+use Prim.Native.Nat.{ℕ, zero, suc, ◌+◌, ◌-◌, ◌≤◌, ◌<◌}
 use native.Mathlib.Omega.{arith}
 use Rattle.coxeter.specs.Kinds.{Kind, least}
 use Rattle.coxeter.specs.Checks.{wrong_letter}
 use Rattle.coxeter.specs.NormalForm.{block, blocks, Indices, none, level, levels, last_index}
 use Rattle.coxeter.proofs.KindLaws.{one_le_levels, levels_le}
 use Rattle.coxeter.proofs.BlockEntries.{block_empty}
-use Rattle.coxeter.proofs.LetterRuns.{IsBlock}
+use Rattle.coxeter.proofs.LetterRuns.{span_nil, IsBlock, block_up}
 use Rattle.rules.proofs.Rewriting.{Rewrites}
 use Rattle.rules.proofs.Ending.{letters_of_accepted}
 use Rattle.rules.proofs.NextLetter.{le_last_index}
@@ -81,6 +81,9 @@ one_block k n i u h o g l =
     rw (block_one k n i h (omega (arith, levels_le k n))) at (extended_word u (block_first k n i o g) (inl (omega arith)) l)
 
 -- ---- all levels
+
+pub block_empty_landed : (k : Kind) (n i : ℕ) → i < n → block k n (suc i) i ≡ []
+block_empty_landed k n i h = block_up k n (suc i) i h ∙ span_nil (suc i) (suc i) (omega arith)
 
 -- a word of blocks of the levels from i on, or reducible
 abbrev Settled : Kind → ℕ → ℕ → List ℕ → Type 0

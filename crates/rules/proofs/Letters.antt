@@ -18,7 +18,7 @@ use Rattle.coxeter.specs.NormalForm.{down, rise, block, levels}
 use Rattle.coxeter.specs.Relations.{Neighbours, FourfoldPair}
 use Rattle.coxeter.proofs.KindLaws.{levels_le}
 use Rattle.coxeter.proofs.LetterRuns.{span, slide, span_nil, span_cons, slide_nil, slide_snoc, rise-span}
-use Rattle.coxeter.proofs.LetterRuns.{IsBlock, block_up, block_turn, span-one, slide-one, fall-slide}
+use Rattle.coxeter.proofs.LetterRuns.{Corner, IsBlock, block_up, block_turn, span-one, slide-one, fall-slide}
 use Rattle.rules.proofs.Families.{Commutes, Carries, Turns}
 
 -- ---- letters of a run
@@ -93,6 +93,15 @@ commutes_level D n a b f h g = elim (dec_le n b) [
   | no t ↦ inl (h, lt_of_not-le t)
 ]
 
+-- two steps apart where the lower one is two below the corner
+commutes_corner : (k : Kind) (n c a b : ℕ) → Corner k n c → a + 2 ≤ c → a + 2 ≤ b → b ≤ n → Commutes k n a b
+commutes_corner A n c a b q f h g = h
+commutes_corner B n c a b q f h g = h
+commutes_corner D n c a b q f h g = elim (dec_le n b) [
+  | yes t ↦ inr (inl (omega arith))
+  | no t ↦ inl (h, lt_of_not-le t)
+]
+
 -- every letter of u is a higher step that commutes with a
 abbrev pub Clear : Kind → ℕ → ℕ → List ℕ → Type 0
 Clear k n a u = (b : ℕ) → Memᴰ b u → (b ≤ n) × Commutes k n a b
@@ -104,6 +113,13 @@ clear_past_turn k n d a f h b m =
     (λ s. (omega arith, commutes_level k n a b f s.0 (omega arith)))
     (λ s. (omega arith, commutes_level k n a b f (omega arith) (omega arith)))
     (mem_hill b (a + 2) (levels k n) (suc n) d m)
+
+corner_clear : (k : Kind) (n c d a : ℕ) → Corner k n c → a + 2 ≤ c → c ≤ n → a + 2 ≤ d → Clear k n a (span (a + 2) c ++ slide (suc n) d)
+corner_clear k n c d a q f l h b m =
+    ⊎_elim
+    (λ s. (omega arith, commutes_corner k n c a b q f s.0 (omega arith)))
+    (λ s. (omega arith, commutes_corner k n c a b q f (omega arith) (omega arith)))
+    (mem_hill b (a + 2) c (suc n) d m)
 
 -- ---- the blocks of family 3
 

@@ -7,9 +7,10 @@ use mathlib.Core.Logic.{◌⊎◌, inl, inr, ⊎_elim}
 use Prim.Native.Nat.{ℕ, suc, ◌+◌, ◌-◌, ◌*◌, ◌≤◌, ◌<◌}
 use native.Mathlib.Decide.{dec_le, ℕ_discrete}
 use native.Mathlib.Omega.{arith}
-use Rattle.coxeter.specs.Kinds.{Kind, A, B, D}
+use Rattle.coxeter.specs.Kinds.{Kind, A, B, D, least}
 use Rattle.coxeter.specs.NormalForm.{levels, last_index}
 use Rattle.coxeter.proofs.KindLaws.{le_levels}
+use Rattle.coxeter.proofs.LetterRuns.{Corner}
 use Rattle.rules.proofs.Families.{Commutes, Carries, Turns, IsD}
 use Rattle.coxeter.proofs.Order.{less, same, more, compared}
 use Rattle.rules.proofs.Letters.{commutes_below}
@@ -40,6 +41,21 @@ pub levels-D : (k : Kind) (n : ℕ) → IsD k → levels k n ≡ n - 1
 levels-D A n w = absurd w
 levels-D B n w = absurd w
 levels-D D n w = refl
+
+pub le_corner : (k : Kind) (n c : ℕ) → Corner k n c → n ≤ suc c
+le_corner A n c e = omega arith
+le_corner B n c e = omega arith
+le_corner D n c e = omega arith
+
+pub corner_D : (k : Kind) (n c : ℕ) → IsD k → Corner k n c → c + 1 ≡ n
+corner_D A n c w e = absurd w
+corner_D B n c w e = absurd w
+corner_D D n c w e = e
+
+pub corner_levels : (k : Kind) (n : ℕ) → least k ≤ n → Corner k n (levels k n)
+corner_levels A n h = refl
+corner_levels B n h = refl
+corner_levels D n h = omega arith
 
 -- every j of the way up is an index of every level
 pub le_last_index : (k : Kind) (n i j : ℕ) → i ≤ n → j ≤ n → j ≤ last_index k n i
