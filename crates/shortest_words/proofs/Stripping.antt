@@ -54,6 +54,10 @@ module _ (allowed : ℕ → Bool) (k : Kind) (n : ℕ) where
     found : {j : ℕ} → DescentFound t s x j → LowestDescent t s x (some j)
     ended : NoDescent t s x → LowestDescent t s x none
 
+  data Lowest (t s : ℕ) (x : List ℤ) : Option ℕ → Type 0 where
+    found : {j : ℕ} → DescentFound t s x j → Lowest t s x (some j)
+    ended : NoDescent t s x → Lowest t s x none
+
   lowest_is : (t s : ℕ) (x : List ℤ) → LowestDescent t s x (lowest allowed k n t s x)
   unfolding lowest
   lowest_is zero s x = ended (λ j g l a. absurd (omega arith))

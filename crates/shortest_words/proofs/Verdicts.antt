@@ -193,6 +193,15 @@ fallback_answer-refused : (k n : ℕ) (present simpler places : List ℕ) → (r
 unfolding fallback_answer fallback_of
 fallback_answer-refused k n present simpler places f = rw (ne_eqb (rank_refusal k n) 0 f) (rw (ne_eqb (rank_refusal k n) 0 f))
 
+fallback_of_kept : (r : ℕ) (t : Bool) (m l : ℕ) → fallback_of r t m ≡ Kept l → l ≡ m
+unfolding fallback_of
+fallback_of_kept r t m l e = fallback_of_kept_by_cases (eqb r 0) t e
+  where
+    fallback_of_kept_by_cases : (s t : Bool) → pick s (pick t (Kept m) No) (Refused r) ≡ Kept l → l ≡ m
+    fallback_of_kept_by_cases true true e = cc
+    fallback_of_kept_by_cases true false e = impossible (cc)
+    fallback_of_kept_by_cases false t e = impossible (cc)
+
 module _ (k n : ℕ) (present simpler places after : List ℕ) where
   -- F5: a no writes nothing, nor does a refusal
   pub no_unchanged : FellBack k n present simpler places No after → after ≡ places
