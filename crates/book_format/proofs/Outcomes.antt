@@ -2,9 +2,9 @@
 -- in checking order, or 0 where none does. Shown by taking the definitions apart into their single tests.
 -- Assumes nothing.
 use mathlib.Core.Path.{◌≡◌, refl, sym, ap, ◌∙◌}
-use mathlib.Core.Bool.{Bool, false, not}
+use mathlib.Core.Bool.{Bool, true, false, not}
 use mathlib.Core.List.{List, [], ◌∷◌, ◌++◌}
-use Prim.Native.Nat.{ℕ, zero, suc, ◌+◌, ◌≤◌}
+use Prim.Native.Nat.{ℕ, zero, suc, ◌+◌, ◌≤◌, ◌<◌}
 use native.Mathlib.Decide.{ℕ_discrete}
 use native.Mathlib.Omega.{arith}
 use lib.Dec.{eqb}
@@ -23,6 +23,10 @@ use Rattle.book_format.specs.Conversion.{conversion_refusal, converting, record_
 use Rattle.coxeter.proofs.FirstFailing.{check_then}
 use Rattle.coxeter.proofs.Basics.{by_pick}
 use Rattle.coxeter.proofs.Refusals.{then_none, then_some, then_assoc}
+
+pub check_then_landed : (m : ℕ) (t : Bool) (r : ℕ) → 0 < m → (check m t then r) ≡ pick t m r
+check_then_landed m true r h = then_some m r (omega arith)
+check_then_landed m false r h = then_none 0 r refl
 
 -- ---- a book
 
