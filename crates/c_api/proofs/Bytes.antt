@@ -54,6 +54,10 @@ rank_refusal_rank : (k n : ℕ) → wrong_kind k ≡ false → wrong_rank (kind_
 unfolding rank_refusal
 rank_refusal_rank k n h w = rw (h, w)
 
+wrong_kind-above_landed : (k : ℕ) → 255 < k → wrong_kind k ≡ true
+unfolding wrong_kind
+wrong_kind-above_landed k h = rw (ne_eqb k 1 (omega arith), ne_eqb k 2 (omega arith), ne_eqb k 3 (omega arith))
+
 wrong_rank_zero : (k : Kind) → wrong_rank k 0 ≡ true
 unfolding wrong_rank
 wrong_rank_zero A = refl
