@@ -42,10 +42,7 @@ fn compile(folder: &Path) {
 }
 
 fn link_before(clone: &Path, folder: &Path) {
-    let archives = ["libwinnathey.a", "libc_api.a"]; // the second until 1.0.0
-    let from = archives.map(|name| clone.join("target/staticlib").join(name)).into_iter().find(|file| file.exists());
-    let from = from.unwrap_or_else(|| panic!("{} has no target/staticlib with one of {archives:?}", clone.display()));
-    let to = folder.join("libbefore.a");
+    let (from, to) = (clone.join("target/staticlib/libc_api.a"), folder.join("libbefore.a"));
     let folders = ["bindings/rust", "outside/winnathey"]; // the second until 0.9.0
     let interface = folders.map(|folder| clone.join(folder).join("src/raw.rs")).into_iter().find(|file| file.exists());
     let interface = interface.unwrap_or_else(|| panic!("{} has no src/raw.rs in {folders:?}", clone.display()));

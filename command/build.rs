@@ -22,5 +22,5 @@ fn archive() -> PathBuf {
         return PathBuf::from(path);
     }
     let here = PathBuf::from(env::var_os("CARGO_MANIFEST_DIR").expect("cargo sets it"));
-    here.join("../target/staticlib/libwinnathey.a")
+    here.join("../target/staticlib/libc_api.a")
 }

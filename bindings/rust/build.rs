@@ -22,7 +22,7 @@ fn found() -> Result<PathBuf, String> {
         return named.canonicalize().map_err(|error| format!("WINNATHEY_LIB is {}: {error}", named.display()));
     }
     let here = PathBuf::from(env::var_os("CARGO_MANIFEST_DIR").expect("cargo sets it"));
-    let built = here.join("../../target/staticlib/libwinnathey.a");
+    let built = here.join("../../target/staticlib/libc_api.a");
     println!("cargo::rerun-if-changed={}", built.display());
     built.canonicalize().ok().or_else(installed).ok_or_else(|| {
         "the library was not found: set WINNATHEY_LIB to libwinnathey.a, or install the package so that pkg-config knows \
