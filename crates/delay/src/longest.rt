@@ -23,7 +23,8 @@ fn longest_entry(kind: u8, n: usize, m: usize, i: usize) -> i8
     if kind == 2 {
         return -x;
     }
-    if n % 2 == 0 {
+    let even = n % 2 == 0;
+    if even {
         return -x;
     }
     if i + 1 == n {

@@ -15,18 +15,18 @@ overflow_sub-result-then-kind-eq2 c = minus_cast_fits (c.args.i + 1) (omega arit
 pub returns-then-kind-eq2 : goal.returns-then-kind-eq2
 returns-then-kind-eq2 c = let pre = c.requires in entry-B _ _ _ pre.0 pre.1 c.if-kind-eq2.true pre.2
 
-pub overflow_sub-result-then-n-eq0 : goal.overflow_sub-result-then-n-eq0
-overflow_sub-result-then-n-eq0 c = minus_cast_fits (c.args.i + 1) (omega arith)
+pub overflow_sub-result-then-even : goal.overflow_sub-result-then-even
+overflow_sub-result-then-even c = minus_cast_fits (c.args.i + 1) (omega arith)
 
-pub returns-then-n-eq0 : goal.returns-then-n-eq0
-returns-then-n-eq0 c =
+pub returns-then-even : goal.returns-then-even
+returns-then-even c =
     let pre = c.requires in
-    entry_even _ _ _ pre.0 pre.1 c.if-kind-eq1.false c.if-kind-eq2.false c.if-n-eq0.true pre.2
+    entry_even _ _ _ pre.0 pre.1 c.if-kind-eq1.false c.if-kind-eq2.false c.if-even.true pre.2
 
 pub returns-then-i-n : goal.returns-then-i-n
 returns-then-i-n c =
     let pre = c.requires in
-    entry_last _ _ _ pre.0 pre.1 c.if-kind-eq1.false c.if-kind-eq2.false c.if-n-eq0.false c.if-i-n.true pre.2
+    entry_last _ _ _ pre.0 pre.1 c.if-kind-eq1.false c.if-kind-eq2.false c.if-even.false c.if-i-n.true pre.2
 
 pub overflow_sub-result-2 : goal.overflow_sub-result-2
 overflow_sub-result-2 c =
@@ -35,4 +35,4 @@ overflow_sub-result-2 c =
 pub returns : goal.returns
 returns c =
     let pre = c.requires in
-    entry-odd _ _ _ pre.0 pre.1 c.if-kind-eq1.false c.if-kind-eq2.false c.if-n-eq0.false c.if-i-n.false pre.2
+    entry-odd _ _ _ pre.0 pre.1 c.if-kind-eq1.false c.if-kind-eq2.false c.if-even.false c.if-i-n.false pre.2
