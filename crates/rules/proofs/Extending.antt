@@ -11,7 +11,7 @@ use native.Mathlib.Omega.{arith}
 use Rattle.coxeter.specs.Kinds.{Kind}
 use Rattle.coxeter.specs.NormalForm.{block, levels, last_index}
 use Rattle.coxeter.proofs.KindLaws.{levels_le, le_levels}
-use Rattle.coxeter.proofs.LetterRuns.{span, span_cut, span_snoc, slide, slide_snoc, IsBlock, block_up, block_turn, slide-one}
+use Rattle.coxeter.proofs.LetterRuns.{Corner, corner_le, span, span_cut, span_snoc, slide, slide_snoc, IsBlock, block_up, block_turn, slide-one}
 use Rattle.rules.proofs.Families.{RuleOf, square, commutation, carry, turn, five, six, seven, IsD}
 use Rattle.rules.proofs.Rewriting.{Rewrites, within}
 use Rattle.rules.proofs.NextLetter.{Last, rising, falling, Next, climbs, tops, falls, repeats}
@@ -93,6 +93,11 @@ block_last {k} {n} {i} {l = l} b (falling a q) = (span i (levels k n) ++ slide (
 level_le : {k : Kind} {n i j l : ℕ} → IsBlock k n i j → Last n i j l → i ≤ l
 level_le b (rising q a h) = omega arith
 level_le {k} {n} b (falling a q) = level_le_last k (omega (arith, levels_le k n)) b.at_most q
+
+-- the same by the corner of the kind, at any level
+level_le_of_corner : (k : Kind) {n : ℕ} (c : ℕ) {i j l : ℕ} → Corner k n c → i ≤ c → j ≤ last_index k n i → Last n i j l → i ≤ l
+level_le_of_corner k c e h g (rising q a b) = omega arith
+level_le_of_corner k {n} c e h g (falling a q) = level_le_last k (omega (arith, corner_le k n c e)) g q
 
 -- ---- the turn of kind D, with a = n − 2
 
