@@ -43,7 +43,7 @@ def bands(model, count, tests):
     yield "proved", "Proved, for every input", "by the kit's prover, from nothing, in each run of the gate; no axiom is added", [
         [(f"{count['contracts']:,} contracts", "each answer and each lent byte", "is what a definition makes of the input"),
          (f"{count['laws']:,} laws and {count['fields']:,} fields", f"they pin {marks.count('pinned'):,} of {count['clauses']:,} clauses", f"and {pinned[0]:,} definitions"),
-         (f"{count['rows']:,} wrong answers", "ruled out by one proof;", f"{count['edits']:,} wrong edits refused")]]
+         (f"{count['rows']:,} wrong answers", "ruled out by two proofs;", f"{count['edits']:,} wrong edits refused")]]
     yield "believed", "Believed", "nothing else has to be", [
         [(f"{primitive[1]:,} lines to read", f"{primitive[0]:,} primitive definitions;", f"{theorem[1]:,} lines more for the theorem"),
          (f"{texts[1]:,} lines to compare", "texts and tables, with", "the specification"),

@@ -20,6 +20,8 @@ WRONG_ROUTERS = tuple(f"{WRONG}{name}.antt" for name in (
     "Answers", "Books", "Checks", "Definitions", "DefinitionsAbove", "DefinitionsFurther", "Messages", "Rewrites", "Routers", "Shortest", "Splits", "Tables",
     "Traces", "Windows"))
 TABLE, RULED_OUT = f"{WRONG}Answers.antt", f"{WRONG}Routers.antt"
+# the lists of rows in the first of these, and of each the laws of the second that say how many rows it has and that it is ruled out
+LISTS = {"table": ("table-length", "ruled_out"), "further": ("further-length", "further_ruled_out")}
 CITING_WRONG = "Q"
 
 
@@ -39,6 +41,7 @@ class Row:
     name: str
     call: str
     line: int
+    list: str
 
 
 @dataclass
@@ -299,22 +302,29 @@ class Builder:
     # -- what is there without a citation
 
     def _rows(self):
-        """The rows of the table of wrong routers: `differ CALL OTHER INPUT`."""
-        file = self.world.antt(TABLE)
-        table = file.by_name.get("table") if file else None
-        if table is None:
-            self.model.wrong.append(f"{TABLE} has no table")
-            return
-        for _, _, words in table.equations:
-            depth = 0
-            for n, word in enumerate(words):
-                depth += (word.text in "({") - (word.text in ")}")
-                if depth == 0 and word.text == "differ":
-                    self.model.rows.append(Row(words[n + 2].name, words[n + 1].name, word.line))
-        length = self.world.antt(RULED_OUT)
-        stated = length.by_name.get("table-length") if length else None
-        if stated is None or stated.signature[-1].text != str(len(self.model.rows)):
-            self.model.wrong.append(f"{TABLE} has {len(self.model.rows)} rows, which is not what table-length of WrongRouters states")
+        """The rows of the table of wrong routers and of the list beside it: `differ CALL OTHER INPUT`."""
+        file, laws = self.world.antt(TABLE), self.world.antt(RULED_OUT)
+        for name, (length, _) in LISTS.items():
+            declared = file.by_name.get(name) if file else None
+            if declared is None:
+                self.model.wrong.append(f"{TABLE} has no {name}")
+                continue
+            rows = [row for _, _, words in declared.equations for row in self._rows_of(name, words)]
+            stated = laws.by_name.get(length) if laws else None
+            if stated is None or [word.text for word in stated.signature[-4:]] != ["length", name, "≡", str(len(rows))]:
+                self.model.wrong.append(f"{name} of {TABLE} has {len(rows)} rows, which is not what {length} of WrongRouters states")
+            self.model.rows += rows
+        of_rows = [one.name for one in file.declarations if result_of(one.signature) == "List" and one.name not in LISTS and not one.owner
+                   and any(word.text == "differ" for _, _, words in one.equations for word in words)] if file else []
+        self.model.wrong += [f"{TABLE} has rows in {name} too, which no law counts" for name in of_rows]
+
+    @staticmethod
+    def _rows_of(name, words):
+        depth = 0
+        for n, word in enumerate(words):
+            depth += (word.text in "({") - (word.text in ")}")
+            if depth == 0 and word.text == "differ":
+                yield Row(words[n + 2].name, words[n + 1].name, word.line, name)
 
     def _definitions(self):
         for path in self.world.specs():

@@ -8,7 +8,7 @@ from defining import Definitions, full
 from pages import Page
 from picture import PICTURE, drawn
 from pinning import PINS, key_of
-from statements import RULED_OUT, TABLE, WRONG_ROUTERS, is_law, with_comment
+from statements import LISTS, RULED_OUT, TABLE, WRONG_ROUTERS, is_law, with_comment
 
 STATEMENTS, ROUTERS, CERTIFICATE = "docs/STATEMENTS.md", "docs/statements/wrong-routers.md", "docs/CERTIFICATE.md"
 OPENED, CLOSED = "<!-- counted by tools/statements -->", "<!-- end of the count -->"
@@ -199,28 +199,32 @@ class Writer:
         page = Page(ROUTERS)
         page.heading(1, "Wrong routers")
         page.add("[All sections](../STATEMENTS.md)", "")
-        page.say(f"Each of the {len(self.model.rows)} rows of the table is an input at which a call's definition says otherwise than a wrong router in its place. "
-                 f"That all of them are ruled out is one law, `ruled_out`, under {self._ruling(page)}.")
+        count = self.counts()
+        page.say(f"Each of the {count['table']} rows of the table and each of the {count['further']} further rows is an input at which a call's definition says otherwise than a wrong "
+                 "router in its place. Two laws say that all of them are ruled out: "
+                 + ", and ".join(f"of {said} `{law}`, under {self._ruling(page, law)}" for (_, law), said in zip(LISTS.values(), ("the table", "the further rows"))) + ".")
         page.add("| Definition | Wrong routers |", "|---|---|")
         for call in dict.fromkeys(row.call for row in self.model.rows):
             links = self._routers(row for row in self.model.rows if row.call == call)
             page.add(f"| `{call}` | " + ", ".join(page.source(*link[:3]) + "".join(link[3:]) for link in links) + " |")
         page.heading(2, "The table")
         page.say("`differ call other at` is the row for the call, the wrong router in its place and the input, the same for both.")
-        table = self.world.antt(TABLE).by_name["table"]
+        table, further = lists = [self.world.antt(TABLE).by_name[name] for name in LISTS]
         page.fence("agda", full(table))
+        page.heading(2, "The further rows")
+        page.fence("agda", full(further))
         for path in WRONG_ROUTERS:
             file = self.world.antt(path)
-            defined = [one for one in file.declarations if not one.owner and one != table and path != RULED_OUT]
+            defined = [one for one in file.declarations if not one.owner and one not in lists and path != RULED_OUT]
             if defined:
                 page.heading(2, path.split("/")[-1].removesuffix(".antt"))
                 page.say(file.header.split("\n\n")[0].replace("\n", " "))
                 page.fence("agda", "\n\n".join(with_comment(one) if is_law(one) else full(one) for one in defined))
         return page
 
-    def _ruling(self, page):
-        """The clause where the law stands that rules them all out."""
-        clause = next(clauses[0] for key, clauses in self.model.citing.items() if key[0] == "law" and key[2] == "ruled_out")
+    def _ruling(self, page, law):
+        """The clause where the law stands that rules the rows of a list out."""
+        clause = next(clauses[0] for key, clauses in self.model.citing.items() if key[0] == "law" and key[2] == law)
         return page.link([clause.name], page.to(f"docs/statements/{clause.section.name}.md", clause.name.lower()))
 
     # -- the count
@@ -229,7 +233,7 @@ class Writer:
         kinds = [kind_of(one) for one in self.model.statements.values()]
         edits = self.world.glob("crates/*/must-fail/*.edit")
         return {"clauses": len(self.model.clauses), "contracts": kinds.count("contract"), "printing": kinds.count(PRINTING), "laws": kinds.count("law"), "fields": kinds.count("field"),
-                "rows": len(self.model.rows), "edits": len(edits), "definitions": len(self.model.definitions)}
+                "rows": len(self.model.rows), **{name: sum(row.list == name for row in self.model.rows) for name in LISTS}, "edits": len(edits), "definitions": len(self.model.definitions)}
 
     def certificate(self, text):
         """The introduction with its count made anew."""
@@ -239,7 +243,7 @@ class Writer:
                  *(f"| {said} | {marks.count(sort):,} |" for sort, said in CLAUSES.items()),
                  f"| contracts of public functions, beside {count['printing']:,} functions that only print and state nothing | {count['contracts']:,} |",
                  f"| laws cited, and fields of records cited one by one | {count['laws']:,} and {count['fields']:,} |",
-                 f"| rows of the table of wrong routers, all ruled out by one proof | {count['rows']:,} |",
+                 f"| rows of the table of wrong routers, all ruled out by one proof, and further rows beside it, by another | {count['table']:,} and {count['further']:,} |",
                  f"| edits of definitions and code that the prover has to refuse | {count['edits']:,} |"]
         begin, end = text.find(OPENED), text.find(CLOSED)
         if begin < 0 or end < begin:

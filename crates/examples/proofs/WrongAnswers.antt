@@ -1,8 +1,9 @@
 -- Wrong routers (section Q of the specification, and others): a wrong answer for each, and an input at which the
 -- call's definition says otherwise. A contract that is an equation with the definition then lets none of them
 -- through. The wrong answers are in WrongChecks, WrongWindows, WrongRewrites, WrongTraces, WrongShortest, WrongSplits,
--- WrongTables, WrongBooks and WrongMessages; that each row is wrong is `ruled_out` of WrongRouters.antt. Not here: what
--- shows only at books too large to compute with, in that file too, and parts and places handed back, in HandedBack.antt.
+-- WrongTables, WrongBooks and WrongMessages; that each row is wrong is `ruled_out` of WrongRouters.antt, and of the
+-- further rows `further_ruled_out` there. Not here: what shows only at books too large to compute with, in that file
+-- too, and parts and places handed back, in HandedBack.antt.
 -- Assumes nothing.
 use mathlib.Core.List.{List, [], ◌∷◌}
 use Prim.Native.Nat.{ℕ}
@@ -136,20 +137,6 @@ table =
     ∷ differ window_checks odd_negatives_refused_in_B (λ f. number (f 2 2 (neg 1 ∷ pos 2 ∷ [])))
     ∷ differ windows_checks second_window_first (λ f. number (f 2 2 (pos 1 ∷ pos 1 ∷ []) (pos 1 ∷ [])))
     ∷ differ windows_checks second_window_unchecked (λ f. number (f 2 2 (pos 1 ∷ pos 2 ∷ []) (pos 1 ∷ [])))
-    ∷ differ split_checks word_before_the_set (λ f. number (f 1 2 4 (9 ∷ [])))
-    ∷ differ split_checks last_step_refused (λ f. number (f 1 2 2 []))
-    ∷ differ table_refusal every_rank_tabled (λ f. number (f 1 20))
-    ∷ differ table_refusal limit_of_AIn_every_kind (λ f. number (f 2 17))
-    ∷ differ table_refusal table_before_the_rank (λ f. number (f 1 64))
-    -- lane counts after the checks, and parity
-    ∷ differ lanes_of_rank lanes_of_every_rank (λ f. lane_count (f 1 64))
-    ∷ differ lanes_of_rank rank_for_the_lanes (λ f. lane_count (f 1 2))
-    ∷ differ lanes_of_preset lanes_of_every_word (λ f. lane_count (f 1 2 (3 ∷ [])))
-    ∷ differ lanes_of_preset letters_for_the_lanes (λ f. lane_count (f 1 2 (1 ∷ [])))
-    ∷ differ lanes_of_words lanes_of_the_first_word (λ f. lane_count (f 1 2 [] (3 ∷ [])))
-    ∷ differ lanes_of_words lanes_of_both_together (λ f. lane_count (f 1 2 [] []))
-    ∷ differ flag_after flag_set_once (λ f. number (pick (f (neg 1 ∷ neg 2 ∷ [])) 1 0))
-    ∷ differ flag_after others_flip (λ f. number (pick (f (neg 1 ∷ pos 2 ∷ pos 3 ∷ [])) 1 0))
     -- the window of a word
     ∷ differ window_of_word turns_every_preset_down (λ f. entries (f 1 2 (1 ∷ 2 ∷ []) (lent_entries 3)))
     ∷ differ window_of_word identity_for_all_words (λ f. entries (f 1 2 (1 ∷ 2 ∷ []) (lent_entries 3)))
@@ -178,12 +165,6 @@ table =
     ∷ differ product_of_words words_joined_unshortened (λ f. bytes (f 1 2 (1 ∷ []) (1 ∷ []) (lent 2)))
     ∷ differ inverse_of_word word_as_its_inverse (λ f. bytes (f 1 2 (1 ∷ 2 ∷ []) (lent 2)))
     ∷ differ inverse_of_word reversed_unshortened (λ f. bytes (f 1 2 (1 ∷ 2 ∷ 1 ∷ []) (lent 3)))
-    ∷ differ form_of_product product_the_other_way_round (λ f. bytes (f 2 2 (neg 2 ∷ pos 1 ∷ []) (pos 2 ∷ pos 1 ∷ []) (lent 4)))
-    ∷ differ form_of_product second_window_alone (λ f. bytes (f 2 2 (neg 2 ∷ pos 1 ∷ []) (pos 2 ∷ pos 1 ∷ []) (lent 4)))
-    ∷ differ form_of_inverse inverse_not_taken (λ f. bytes (f 2 2 (neg 2 ∷ pos 1 ∷ []) (lent 4)))
-    ∷ differ form_of_inverse inverse_form_without_signs (λ f. bytes (f 2 2 (neg 2 ∷ pos 1 ∷ []) (lent 4)))
-    ∷ differ form_between from_second_to_first (λ f. bytes (f 2 2 (neg 2 ∷ pos 1 ∷ []) (pos 1 ∷ pos 2 ∷ []) (lent 4)))
-    ∷ differ form_between first_not_inverted (λ f. bytes (f 2 2 (neg 2 ∷ pos 1 ∷ []) (pos 1 ∷ pos 2 ∷ []) (lent 4)))
     -- lengths; by the usual order the last step alone would get a length above 1 (Q8)
     ∷ differ length_of_word letter_total (λ f. answer (f 1 2 (1 ∷ 1 ∷ [])))
     ∷ differ length_of_word usual_order_of_AWord (λ f. answer (f 2 2 (2 ∷ [])))
@@ -191,12 +172,6 @@ table =
     ∷ differ length_of_window usual_order_of_AWindow (λ f. answer (f 2 2 (pos 1 ∷ neg 2 ∷ [])))
     ∷ differ length_of_window negatives_not_counted (λ f. answer (f 2 2 (pos 1 ∷ neg 2 ∷ [])))
     ∷ differ length_of_window negates_before_its_range (λ f. answer (f 2 2 (neg 128 ∷ pos 1 ∷ [])))
-    -- lengths as three counts
-    ∷ differ crossings_of_window mirrored_lanes_counted_in_D (λ f. counted (f 3 4 (neg 1 ∷ neg 2 ∷ pos 3 ∷ pos 4 ∷ [])))
-    ∷ differ crossings_of_window pairs_exchanged (λ f. counted (f 2 2 (pos 2 ∷ pos 1 ∷ [])))
-    ∷ differ crossings_of_window length_as_plain_pairs (λ f. counted (f 2 2 (pos 1 ∷ neg 2 ∷ [])))
-    ∷ differ crossings_of_word letters_as_plain_pairs (λ f. counted (f 1 2 (1 ∷ 1 ∷ [])))
-    ∷ differ crossings_of_word counts_of_the_inverse (λ f. counted (f 2 2 (2 ∷ 1 ∷ [])))
     -- verdicts
     ∷ differ presets_equal ranks_not_compared (λ f. verdict (f 1 2 [] 1 3 []))
     ∷ differ presets_equal kinds_compared (λ f. verdict (f 2 4 [] 3 4 []))
@@ -264,12 +239,6 @@ table =
     ∷ differ handed_out letters_from_the_record (λ f. part (f First one 0))
     ∷ differ handed_out refused_preset_hands_out_letters (λ f. part (f First (1 ∷ 1 ∷ 1 ∷ 0 ∷ 2 ∷ 0 ∷ 0 ∷ 1 ∷ 0 ∷ []) 0))
     ∷ differ handed_out letters_one_byte_early (λ f. part (f Second (1 ∷ 1 ∷ 2 ∷ 1 ∷ 0 ∷ 1 ∷ 0 ∷ 0 ∷ 1 ∷ 0 ∷ []) 0))
-    -- runs of presets
-    ∷ differ reading_presets zeros_past_the_last (λ f. bytes (f First one 0 (lent 10)))
-    ∷ differ reading_presets fields_of_ARefused_record (λ f. bytes (f First (1 ∷ 1 ∷ 1 ∷ 0 ∷ 2 ∷ 0 ∷ 0 ∷ 1 ∷ 0 ∷ []) 0 (lent 5)))
-    ∷ differ reading_presets room_before_the_number (λ f. bytes (f First [] 0 []))
-    ∷ differ run_from run_from_the_next (λ f. run (f First one 0))
-    ∷ differ run_from last_preset_again (λ f. run (f First one 0))
     -- appending
     ∷ differ appending lane_count_left_out (λ f. bytes (f Second (0 ∷ 0 ∷ []) 1 2 [] (lent 9)))
     ∷ differ appending last_offset_dropped (λ f. bytes (f First (0 ∷ 0 ∷ []) 1 2 [] (lent 8)))
@@ -284,8 +253,6 @@ table =
     -- lines of the listing
     ∷ differ count_line count_without_line_feed (λ f. text (f 2))
     ∷ differ refused_book_line book_refusal_always1 (λ f. text (f 3))
-    ∷ differ refused_book book_left_out (λ f. bytes (f 3 (lent 15)))
-    ∷ differ refused_book refused_book_cut_off (λ f. bytes (f 3 (lent 5)))
     ∷ differ refused_line preset_refusal_always1 (λ f. text (f 0 8))
     ∷ differ word_line length_before_rank (λ f. text (f 0 B 2 (1 ∷ 2 ∷ 1 ∷ 2 ∷ [])))
     ∷ differ word_line minus_left_out (λ f. text (f 0 B 2 (1 ∷ 2 ∷ 1 ∷ 2 ∷ [])))
@@ -294,6 +261,48 @@ table =
     ∷ differ next_piece last_line_left_out (λ f. piece (f First one 0 (lent 40)))
     ∷ differ next_piece line_cut_off (λ f. piece (f First one 0 (lent 12)))
     ∷ differ next_piece last_byte_unused (λ f. piece (f First one 0 (lent 10)))
+    ∷ []
+
+-- further rows beside the table, made like those of it
+unfoldable pub further : List WrongRouter
+further =
+    -- refusals
+    differ split_checks word_before_the_set (λ f. number (f 1 2 4 (9 ∷ [])))
+    ∷ differ split_checks last_step_refused (λ f. number (f 1 2 2 []))
+    ∷ differ table_refusal every_rank_tabled (λ f. number (f 1 20))
+    ∷ differ table_refusal limit_of_AIn_every_kind (λ f. number (f 2 17))
+    ∷ differ table_refusal table_before_the_rank (λ f. number (f 1 64))
+    -- lane counts after the checks, and parity
+    ∷ differ lanes_of_rank lanes_of_every_rank (λ f. lane_count (f 1 64))
+    ∷ differ lanes_of_rank rank_for_the_lanes (λ f. lane_count (f 1 2))
+    ∷ differ lanes_of_preset lanes_of_every_word (λ f. lane_count (f 1 2 (3 ∷ [])))
+    ∷ differ lanes_of_preset letters_for_the_lanes (λ f. lane_count (f 1 2 (1 ∷ [])))
+    ∷ differ lanes_of_words lanes_of_the_first_word (λ f. lane_count (f 1 2 [] (3 ∷ [])))
+    ∷ differ lanes_of_words lanes_of_both_together (λ f. lane_count (f 1 2 [] []))
+    ∷ differ flag_after flag_set_once (λ f. number (pick (f (neg 1 ∷ neg 2 ∷ [])) 1 0))
+    ∷ differ flag_after others_flip (λ f. number (pick (f (neg 1 ∷ pos 2 ∷ pos 3 ∷ [])) 1 0))
+    -- products and inverses
+    ∷ differ form_of_product product_the_other_way_round (λ f. bytes (f 2 2 (neg 2 ∷ pos 1 ∷ []) (pos 2 ∷ pos 1 ∷ []) (lent 4)))
+    ∷ differ form_of_product second_window_alone (λ f. bytes (f 2 2 (neg 2 ∷ pos 1 ∷ []) (pos 2 ∷ pos 1 ∷ []) (lent 4)))
+    ∷ differ form_of_inverse inverse_not_taken (λ f. bytes (f 2 2 (neg 2 ∷ pos 1 ∷ []) (lent 4)))
+    ∷ differ form_of_inverse inverse_form_without_signs (λ f. bytes (f 2 2 (neg 2 ∷ pos 1 ∷ []) (lent 4)))
+    ∷ differ form_between from_second_to_first (λ f. bytes (f 2 2 (neg 2 ∷ pos 1 ∷ []) (pos 1 ∷ pos 2 ∷ []) (lent 4)))
+    ∷ differ form_between first_not_inverted (λ f. bytes (f 2 2 (neg 2 ∷ pos 1 ∷ []) (pos 1 ∷ pos 2 ∷ []) (lent 4)))
+    -- lengths as three counts
+    ∷ differ crossings_of_window mirrored_lanes_counted_in_D (λ f. counted (f 3 4 (neg 1 ∷ neg 2 ∷ pos 3 ∷ pos 4 ∷ [])))
+    ∷ differ crossings_of_window pairs_exchanged (λ f. counted (f 2 2 (pos 2 ∷ pos 1 ∷ [])))
+    ∷ differ crossings_of_window length_as_plain_pairs (λ f. counted (f 2 2 (pos 1 ∷ neg 2 ∷ [])))
+    ∷ differ crossings_of_word letters_as_plain_pairs (λ f. counted (f 1 2 (1 ∷ 1 ∷ [])))
+    ∷ differ crossings_of_word counts_of_the_inverse (λ f. counted (f 2 2 (2 ∷ 1 ∷ [])))
+    -- runs of presets
+    ∷ differ reading_presets zeros_past_the_last (λ f. bytes (f First one 0 (lent 10)))
+    ∷ differ reading_presets fields_of_ARefused_record (λ f. bytes (f First (1 ∷ 1 ∷ 1 ∷ 0 ∷ 2 ∷ 0 ∷ 0 ∷ 1 ∷ 0 ∷ []) 0 (lent 5)))
+    ∷ differ reading_presets room_before_the_number (λ f. bytes (f First [] 0 []))
+    ∷ differ run_from run_from_the_next (λ f. run (f First one 0))
+    ∷ differ run_from last_preset_again (λ f. run (f First one 0))
+    -- lines of the listing
+    ∷ differ refused_book book_left_out (λ f. bytes (f 3 (lent 15)))
+    ∷ differ refused_book refused_book_cut_off (λ f. bytes (f 3 (lent 5)))
     -- messages
     ∷ differ refusal_message message_of_the_next (λ f. bytes (f 4 (lent 77)))
     ∷ differ refusal_message message_for_none (λ f. bytes (f 0 (lent 88)))

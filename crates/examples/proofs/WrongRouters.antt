@@ -1,7 +1,7 @@
 -- No row of the table of wrong routers gets through: a test of a row, sound for every row, computes to true over
--- the whole table. The test compares the numbers of what the call and the wrong router tell. Then the wrong answers
--- that no row can show: at books too large to compute with, by the laws of books. Parts handed back and places kept,
--- which are not values of a definition, are in `HandedBack`.
+-- the whole table, and over the further rows beside it. The test compares the numbers of what the call and the wrong
+-- router tell. Then the wrong answers that no row can show: at books too large to compute with, by the laws of books.
+-- Parts handed back and places kept, which are not values of a definition, are in `HandedBack`.
 --
 -- Sections: the test; the table; the largest book.
 -- Assumes nothing.
@@ -88,7 +88,7 @@ use Rattle.book_format.proofs.Vectors.{too_large_book, appending_too_large, conv
 use Rattle.examples.proofs.WrongBooks.{book_of65536_bytes, room_before_the_size_limit, size_limit_of_the_old_book}
 use Rattle.examples.proofs.WrongTraces.{behind_last, ones}
 use Rattle.examples.proofs.WrongAnswers as told
-use Rattle.examples.proofs.WrongAnswers.{Result, WrongRouter, table}
+use Rattle.examples.proofs.WrongAnswers.{Result, WrongRouter, table, further}
 
 -- ---- the test
 
@@ -191,15 +191,14 @@ all_differ (r ∷ rs) = differs r && all_differ rs
 
 -- the one computed fact, with the definitions that the rows pass through, layer by layer
 all-differ : all_differ table ≡ true
-unfolding table all_differ differs numbers of_answer of_verdict of_choice of_counted of_lanes of_rewrite of_end of_fallback of_split of_table of_opened
-    of_preset of_presets of_piece
+unfolding table all_differ differs numbers of_answer of_verdict of_choice of_rewrite of_end of_fallback of_split of_table of_opened of_preset of_piece
     kind_of up from swap negate_first swap_negate act window_from identity window at product signed place_from inverse
-    later negative one later_than inversions negative_sum_pairs negatives crossings total window_length flipped before shortlex
+    later negative one later_than inversions negative_sum_pairs negatives crossings total window_length before shortlex
     wrong_kind wrong_rank too_long wrong_letter wrong_lanes has_size negative_in_A wrong_at wrong_entry odd odd_negatives too_short
     rank_refusal word_refusal window_refusal
     down rise fall block without index_of rest_of normal_from normal_form
     answer_of verdict_of front written writes window_of_word product_of_windows inverse_of_window normal_form_of_window normal_form_of_word product_of_words inverse_of_word
-    length_of_window length_of_word lanes_of counted_of crossings_of_window crossings_of_word same_entry same_window equal_words same_presets presets_equal hands_back choice
+    length_of_window length_of_word same_entry same_window equal_words same_presets presets_equal hands_back choice
     concat_map family1 family2 family3 family4 families5to7 rules begins fits first_fitting rewritten past_end rewrite_by rewrite_at
     lowest_from lowest_redex trace_within trace too_few_places to_end_of traced_by rewriting_to_end number_of_steps behind_last ones
     some_subword is_fallback fallback_of fallback_answer
@@ -209,11 +208,26 @@ unfolding table all_differ differs numbers of_answer of_verdict of_choice of_cou
     untabled table_refusal table_of room_refusal tabling.tables delay_table
     two_at two count trailer offset wrong_size wrong_count misplaced_from misplaced no_such_preset too_large retired wrong_rank_in_book wrong_lane_count book_rank_refusal
     book_refusal record_refusal preset_refusal record_of appended append_refusal opened_of preset_of
-    checked_book preset_at checked_preset letters_start letters_of fields_of preset_fields run_length reading_presets appending
+    checked_book preset_at checked_preset letters_start letters_of appending
     record_bytes offset_bytes lay_out records_from records_of converted too_many_lanes record_conversion_refusal records_conversion_refusal conversion_refusal converting
     digits decimal spaced letters entry entries kind_letter head tail preset_line refused refused_line refused_book_line count_line word_line line_by line_of
-    line_count_by line_count first_line line lines fitting next_piece codes_from codes messages message refusal_message
+    line_count_by line_count first_line line lines fitting next_piece
 all-differ = refl
+
+-- the same of the further rows, which pass through fewer
+further-differ : all_differ further ≡ true
+unfolding further all_differ differs numbers of_answer of_counted of_lanes of_opened of_preset of_presets
+    kind_of up from swap negate_first swap_negate act window_from identity window at product signed place_from inverse
+    later negative one later_than inversions negative_sum_pairs negatives crossings total window_length flipped
+    wrong_kind wrong_rank too_long wrong_letter wrong_lanes has_size negative_in_A wrong_at wrong_entry odd odd_negatives too_short
+    rank_refusal word_refusal window_refusal wrong_set set_refusal untabled table_refusal
+    down rise fall block without index_of rest_of normal_from normal_form
+    answer_of front written writes lanes_of counted_of crossings_of_window crossings_of_word same_entry same_window
+    two_at two count trailer offset wrong_size wrong_count misplaced_from misplaced no_such_preset retired wrong_rank_in_book wrong_lane_count book_rank_refusal
+    book_refusal record_refusal preset_refusal opened_of preset_of
+    checked_book preset_at checked_preset letters_start letters_of fields_of preset_fields run_length reading_presets
+    digits decimal refused refused_book_line codes_from codes messages message refusal_message
+further-differ = refl
 
 all_sound : (rs : List WrongRouter) → all_differ rs ≡ true → (r : WrongRouter) → Memᴰ r rs → r.right ≡ r.wrong → ⊥
 unfolding all_differ
@@ -227,9 +241,18 @@ pub ruled_out : (r : WrongRouter) → Memᴰ r table → r.right ≡ r.wrong →
 ruled_out = all_sound table all-differ
 
 -- so many rows, lest one be lost
-pub table-length : length table ≡ 159
+pub table-length : length table ≡ 125
 unfolding table
 table-length = refl
+
+-- nor is what a wrong router of the further rows returns
+pub further_ruled_out : (r : WrongRouter) → Memᴰ r further → r.right ≡ r.wrong → ⊥
+further_ruled_out = all_sound further further-differ
+
+-- so many of them
+pub further-length : length further ≡ 34
+unfolding further
+further-length = refl
 
 -- ---- the largest book
 
