@@ -36,11 +36,11 @@ def bands(model, count, tests):
          ("The page", f"{tests['tests in Chromium']} tests in Chromium,", "by mouse, touch and keyboard"),
          ("What is installed", f"{tests['files and folders']} files and folders by make;", "packages by their managers"),
          ("The statements' pages", f"{tests['planted faults']} planted faults,", "all found")]]
-    yield "tested", "Tested: what the compiler made", "the same proved module for three machines; built twice, it has the same bytes", [
+    yield "tested", "Tested: what the compiler made", "the same proved library for three machines; built twice, it has the same bytes", [
         [("x86-64", f"{tests['calls compared']} calls as a plain version answers,", f"{tests['calls on x86-64']} as the other two"),
          ("aarch64", f"{tests['calls on aarch64']} calls:", "the same answers and bytes"),
          ("wasm32", f"{tests['calls on wasm32']} calls:", "the same answers and bytes")]]
-    yield "proved", "Proved, for every input", "by the kit's prover, from nothing, in each run of the gate; no axiom is added", [
+    yield "proved", "Proved, for every input", "by the kit's prover, in a run of the gate over the same files; no axiom is added", [
         [(f"{count['contracts']:,} contracts", "each answer and each lent byte", "is what a definition makes of the input"),
          (f"{count['laws']:,} laws and {count['fields']:,} fields", f"they pin {marks.count('pinned'):,} of {count['clauses']:,} clauses", f"and {pinned[0]:,} definitions"),
          (f"{count['rows']:,} wrong answers", "ruled out by two proofs;", f"{count['edits']:,} wrong edits refused")]]
