@@ -42,32 +42,32 @@ use Rattle.examples.proofs.WrongChecks.{presets_checks, second_preset_first, bot
 use Rattle.examples.proofs.WrongChecks.{window_checks, window_before_the_rank, odd_negatives_refused_in_B, windows_checks, second_window_first, lanes_of_preset}
 use Rattle.examples.proofs.WrongChecks.{second_window_unchecked, lanes_of_words, lanes_of_every_rank, rank_for_the_lanes, lanes_of_every_word, letters_for_the_lanes}
 use Rattle.examples.proofs.WrongChecks.{lanes_of_the_first_word, lanes_of_both_together, flag_set_once, others_flip}
-use Rattle.examples.proofs.WrongWindows.{turns_every_preset_down, identity_for_all_words, swaps_values, step_of_BIn_D, refused_call_writes, clears_the_output, better}
-use Rattle.examples.proofs.WrongWindows.{unshortened_word, peels_only_block1, stops_at_AShortest_word, room_for_the_rank_only, block1_alone, entries_before_lanes}
+use Rattle.examples.proofs.WrongWindows.{turns_every_preset_down, identity_for_all_words, swaps_values, step_of_B_in_D, refused_call_writes, clears_the_output, better}
+use Rattle.examples.proofs.WrongWindows.{unshortened_word, peels_only_block1, stops_at_a_shortest_word, room_for_the_rank_only, block1_alone, entries_before_lanes}
 use Rattle.examples.proofs.WrongWindows.{odd_negatives_accepted, block_turns_early_in_B, index_one_off_on_the_way_down, last_entry_kept_in_D, product_in_wrong_order}
 use Rattle.examples.proofs.WrongWindows.{second_window_checked_first, window_as_its_inverse, inverse_without_signs, words_joined_the_other_way, word_as_its_inverse}
-use Rattle.examples.proofs.WrongWindows.{words_joined_unshortened, reversed_unshortened, letter_total, usual_order_of_AWindow, usual_order_of_AWord, kinds_compared}
+use Rattle.examples.proofs.WrongWindows.{words_joined_unshortened, reversed_unshortened, letter_total, usual_order_of_a_window, usual_order_of_a_word, kinds_compared}
 use Rattle.examples.proofs.WrongWindows.{negatives_not_counted, negates_before_its_range, ranks_not_compared, kind_of_the_first_for_both, second_preset_refused_first}
 use Rattle.examples.proofs.WrongWindows.{later_word_handed_back, windows_not_compared, second_of_equal_words, form_of_product, form_of_inverse, form_between}
 use Rattle.examples.proofs.WrongWindows.{product_the_other_way_round, second_window_alone, inverse_not_taken, inverse_form_without_signs, from_second_to_first}
 use Rattle.examples.proofs.WrongWindows.{first_not_inverted, mirrored_lanes_counted_in_D, pairs_exchanged, length_as_plain_pairs, letters_as_plain_pairs}
 use Rattle.examples.proofs.WrongWindows.{counts_of_the_inverse}
-use Rattle.examples.proofs.WrongRewrites.{rewrite_single, none_fits_without_looking, none_fits_for_want_of_room, rule_of_BIn_D, family3_one_too_far_in_B, word_copied_first}
+use Rattle.examples.proofs.WrongRewrites.{rewrite_single, none_fits_without_looking, none_fits_for_want_of_room, rule_of_B_in_D, family3_one_too_far_in_B, word_copied_first}
 use Rattle.examples.proofs.WrongRewrites.{family4_as_family3, replaced_one_place_to_the_left, place_at_the_end_accepted, room_checked_before_the_rule}
 use Rattle.examples.proofs.WrongTraces.{search_behind_the_last_place, output_before_the_lists, letters_counted, shortening_steps_counted}
-use Rattle.examples.proofs.WrongShortest.{verdict_by_length_alone, present_word_unshortened, room_asked_for_ANo, way_back, letters_not_asked, room_before_the_way}
+use Rattle.examples.proofs.WrongShortest.{verdict_by_length_alone, present_word_unshortened, room_asked_for_a_no, way_back, letters_not_asked, room_before_the_way}
 use Rattle.examples.proofs.WrongShortest.{windows_before_the_set, bits_one_off}
 use Rattle.examples.proofs.WrongSplits.{words_swapped, bit0_for_step2, one_step_left, set_checked_after_the_word, one_bit_too_many, first_word_written_first}
 use Rattle.examples.proofs.WrongSplits.{split_checks, word_before_the_set, last_step_refused}
 use Rattle.examples.proofs.WrongTables.{rank20_in_A, factor_left_out, running_totals, identity_as_longest, room_of_the_list_only, list_written_first, every_rank_tabled}
-use Rattle.examples.proofs.WrongTables.{limit_of_AIn_every_kind, table_before_the_rank}
+use Rattle.examples.proofs.WrongTables.{limit_of_A_in_every_kind, table_before_the_rank}
 use Rattle.examples.proofs.WrongBooks.{no_bytes_refused, one_byte_accepted, no_presets_refused3, retired_not_read, retired_appended, retired_before_letters}
 use Rattle.examples.proofs.WrongBooks.{retired_in_every_kind, count_high_byte_first, offset_against_the_trailer, last_record_may_stop_early, opens_other_bytes, run_from}
 use Rattle.examples.proofs.WrongBooks.{one_preset_too_many, preset0_for_every_number, lane_count_before_rank, lane_count_is_the_rank, ranges_of_the_first, handed_out}
 use Rattle.examples.proofs.WrongBooks.{ranges_of_the_second, letters_one_byte_early, lane_count_left_out, letters_from_the_record, refused_preset_hands_out_letters}
 use Rattle.examples.proofs.WrongBooks.{last_offset_dropped, kind_and_rank_swapped, last_record_dropped, lane_limit_first, later_records_unchecked, length_before_rank}
 use Rattle.examples.proofs.WrongBooks.{count_without_line_feed, book_refusal_always1, preset_refusal_always1, minus_left_out, no_preset_line, last_line_left_out}
-use Rattle.examples.proofs.WrongBooks.{line_cut_off, last_byte_unused, zeros_past_the_last, fields_of_ARefused_record, room_before_the_number, run_from_the_next}
+use Rattle.examples.proofs.WrongBooks.{line_cut_off, last_byte_unused, zeros_past_the_last, fields_of_a_refused_record, room_before_the_number, run_from_the_next}
 use Rattle.examples.proofs.WrongBooks.{last_preset_again, refused_book, book_left_out, refused_book_cut_off}
 use Rattle.examples.proofs.WrongMessages.{message_of_the_next, message_for_none, message_cut_off}
 
@@ -141,13 +141,13 @@ table =
     ∷ differ window_of_word turns_every_preset_down (λ f. entries (f 1 2 (1 ∷ 2 ∷ []) (lent_entries 3)))
     ∷ differ window_of_word identity_for_all_words (λ f. entries (f 1 2 (1 ∷ 2 ∷ []) (lent_entries 3)))
     ∷ differ window_of_word swaps_values (λ f. entries (f 1 2 (1 ∷ 2 ∷ []) (lent_entries 3)))
-    ∷ differ window_of_word step_of_BIn_D (λ f. entries (f 3 4 (4 ∷ []) (lent_entries 4)))
+    ∷ differ window_of_word step_of_B_in_D (λ f. entries (f 3 4 (4 ∷ []) (lent_entries 4)))
     ∷ differ window_of_word refused_call_writes (λ f. entries (f 1 2 (3 ∷ []) (lent_entries 3)))
     ∷ differ window_of_word clears_the_output (λ f. entries (f 1 2 (1 ∷ []) (lent_entries 4)))
     -- the normal form of a word
     ∷ differ normal_form_of_word unshortened_word (λ f. bytes (f 1 2 (1 ∷ 1 ∷ []) (lent 2)))
     ∷ differ normal_form_of_word peels_only_block1 (λ f. bytes (f 1 3 (2 ∷ 3 ∷ 2 ∷ []) (lent 3)))
-    ∷ differ normal_form_of_word stops_at_AShortest_word (λ f. bytes (f 1 2 (1 ∷ 2 ∷ 1 ∷ []) (lent 3)))
+    ∷ differ normal_form_of_word stops_at_a_shortest_word (λ f. bytes (f 1 2 (1 ∷ 2 ∷ 1 ∷ []) (lent 3)))
     ∷ differ normal_form_of_word room_for_the_rank_only (λ f. bytes (f 2 2 (1 ∷ 2 ∷ 1 ∷ 2 ∷ []) (lent 3)))
     -- the normal form of a window
     ∷ differ normal_form_of_window block1_alone (λ f. bytes (f 1 2 (pos 3 ∷ pos 2 ∷ pos 1 ∷ []) (lent 3)))
@@ -167,9 +167,9 @@ table =
     ∷ differ inverse_of_word reversed_unshortened (λ f. bytes (f 1 2 (1 ∷ 2 ∷ 1 ∷ []) (lent 3)))
     -- lengths; by the usual order the last step alone would get a length above 1 (Q8)
     ∷ differ length_of_word letter_total (λ f. answer (f 1 2 (1 ∷ 1 ∷ [])))
-    ∷ differ length_of_word usual_order_of_AWord (λ f. answer (f 2 2 (2 ∷ [])))
-    ∷ differ length_of_word usual_order_of_AWord (λ f. answer (f 3 4 (4 ∷ [])))
-    ∷ differ length_of_window usual_order_of_AWindow (λ f. answer (f 2 2 (pos 1 ∷ neg 2 ∷ [])))
+    ∷ differ length_of_word usual_order_of_a_word (λ f. answer (f 2 2 (2 ∷ [])))
+    ∷ differ length_of_word usual_order_of_a_word (λ f. answer (f 3 4 (4 ∷ [])))
+    ∷ differ length_of_window usual_order_of_a_window (λ f. answer (f 2 2 (pos 1 ∷ neg 2 ∷ [])))
     ∷ differ length_of_window negatives_not_counted (λ f. answer (f 2 2 (pos 1 ∷ neg 2 ∷ [])))
     ∷ differ length_of_window negates_before_its_range (λ f. answer (f 2 2 (neg 128 ∷ pos 1 ∷ [])))
     -- verdicts
@@ -184,7 +184,7 @@ table =
     -- one rewrite
     ∷ differ rewrite_single none_fits_without_looking (λ f. rewrite (f 1 2 (1 ∷ 1 ∷ []) 0 (lent 2)))
     ∷ differ rewrite_single none_fits_for_want_of_room (λ f. rewrite (f 1 3 (1 ∷ 3 ∷ []) 0 []))
-    ∷ differ rewrite_single rule_of_BIn_D (λ f. rewrite (f 3 4 (2 ∷ 4 ∷ []) 0 (lent 2)))
+    ∷ differ rewrite_single rule_of_B_in_D (λ f. rewrite (f 3 4 (2 ∷ 4 ∷ []) 0 (lent 2)))
     ∷ differ rewrite_single family3_one_too_far_in_B (λ f. rewrite (f 2 2 (1 ∷ 2 ∷ 1 ∷ []) 0 (lent 3)))
     ∷ differ rewrite_single family4_as_family3 (λ f. rewrite (f 2 2 (1 ∷ 2 ∷ 1 ∷ 2 ∷ []) 0 (lent 4)))
     ∷ differ rewrite_single replaced_one_place_to_the_left (λ f. rewrite (f 1 2 (2 ∷ 1 ∷ 1 ∷ []) 1 (lent 3)))
@@ -199,7 +199,7 @@ table =
     -- fallbacks
     ∷ differ fallback_answer verdict_by_length_alone (λ f. fallback (f 1 2 (1 ∷ []) (2 ∷ []) (lent 1)))
     ∷ differ fallback_answer present_word_unshortened (λ f. fallback (f 1 2 (1 ∷ 1 ∷ []) (1 ∷ []) (lent 1)))
-    ∷ differ fallback_answer room_asked_for_ANo (λ f. fallback (f 1 2 (1 ∷ []) (2 ∷ []) []))
+    ∷ differ fallback_answer room_asked_for_a_no (λ f. fallback (f 1 2 (1 ∷ []) (2 ∷ []) []))
     -- splits
     ∷ differ splitting words_swapped (λ f. split (f 1 2 1 (1 ∷ 2 ∷ []) (lent 2) (lent 2)))
     ∷ differ splitting bit0_for_step2 (λ f. split (f 1 2 1 (1 ∷ 2 ∷ []) (lent 2) (lent 2)))
@@ -270,7 +270,7 @@ further =
     differ split_checks word_before_the_set (λ f. number (f 1 2 4 (9 ∷ [])))
     ∷ differ split_checks last_step_refused (λ f. number (f 1 2 2 []))
     ∷ differ table_refusal every_rank_tabled (λ f. number (f 1 20))
-    ∷ differ table_refusal limit_of_AIn_every_kind (λ f. number (f 2 17))
+    ∷ differ table_refusal limit_of_A_in_every_kind (λ f. number (f 2 17))
     ∷ differ table_refusal table_before_the_rank (λ f. number (f 1 64))
     -- lane counts after the checks, and parity
     ∷ differ lanes_of_rank lanes_of_every_rank (λ f. lane_count (f 1 64))
@@ -296,7 +296,7 @@ further =
     ∷ differ crossings_of_word counts_of_the_inverse (λ f. counted (f 2 2 (2 ∷ 1 ∷ [])))
     -- runs of presets
     ∷ differ reading_presets zeros_past_the_last (λ f. bytes (f First one 0 (lent 10)))
-    ∷ differ reading_presets fields_of_ARefused_record (λ f. bytes (f First (1 ∷ 1 ∷ 1 ∷ 0 ∷ 2 ∷ 0 ∷ 0 ∷ 1 ∷ 0 ∷ []) 0 (lent 5)))
+    ∷ differ reading_presets fields_of_a_refused_record (λ f. bytes (f First (1 ∷ 1 ∷ 1 ∷ 0 ∷ 2 ∷ 0 ∷ 0 ∷ 1 ∷ 0 ∷ []) 0 (lent 5)))
     ∷ differ reading_presets room_before_the_number (λ f. bytes (f First [] 0 []))
     ∷ differ run_from run_from_the_next (λ f. run (f First one 0))
     ∷ differ run_from last_preset_again (λ f. run (f First one 0))

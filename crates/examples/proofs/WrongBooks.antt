@@ -150,8 +150,8 @@ fields_of_every ed b (suc t) i =
     let o = offset b i in
     preset_refusal ed b i ∷ kind_at b o ∷ rank_at b o ∷ (o + head_size ed) ∷ letter_count_at ed b o ∷ fields_of_every ed b t (suc i)
 
-abbrev pub fields_of_ARefused_record : Edition → List ℕ → ℕ → List ℕ → Outcome ℕ
-fields_of_ARefused_record ed b i out = read_by (run_checks ed b i out) (run_length b i out) (fields_of_every ed b (run_length b i out) i) out
+abbrev pub fields_of_a_refused_record : Edition → List ℕ → ℕ → List ℕ → Outcome ℕ
+fields_of_a_refused_record ed b i out = read_by (run_checks ed b i out) (run_length b i out) (fields_of_every ed b (run_length b i out) i) out
 
 -- check 14 before check 4
 abbrev pub room_before_the_number : Edition → List ℕ → ℕ → List ℕ → Outcome ℕ

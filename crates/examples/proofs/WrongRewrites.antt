@@ -35,8 +35,8 @@ none_fits_for_want_of_room k n u p out = elim (first_fitting (rules (kind_of k) 
 ]
 
 -- Q9
-abbrev pub rule_of_BIn_D : ℕ → ℕ → List ℕ → ℕ → List ℕ → Transition single
-rule_of_BIn_D = rewrite_with (λ k n. rules k n ++ family2 B n)
+abbrev pub rule_of_B_in_D : ℕ → ℕ → List ℕ → ℕ → List ℕ → Transition single
+rule_of_B_in_D = rewrite_with (λ k n. rules k n ++ family2 B n)
 
 -- family 3 also for j = 2n − i − 1
 abbrev pub family3_one_too_far_in_B : ℕ → ℕ → List ℕ → ℕ → List ℕ → Transition single

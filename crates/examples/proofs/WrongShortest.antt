@@ -36,8 +36,8 @@ present_word_unshortened k n u v places =
     fallback_by (some_subword (kind_of k) n (identity (lanes (kind_of k) n)) u (window (kind_of k) n v)) k n u v places
 
 -- check 14 also with a no
-abbrev pub room_asked_for_ANo : ℕ → ℕ → List ℕ → List ℕ → List ℕ → Fallback
-room_asked_for_ANo k n u v places =
+abbrev pub room_asked_for_a_no : ℕ → ℕ → List ℕ → List ℕ → List ℕ → Fallback
+room_asked_for_a_no k n u v places =
     let l = simpler_length k n v in
     fallback_of (rank_refusal k n then word_refusal n u then word_refusal n v then check 14 (too_short l places)) (is_fallback (kind_of k) n u v) l
 

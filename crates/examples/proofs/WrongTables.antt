@@ -61,8 +61,8 @@ abbrev pub every_rank_tabled : ℕ → ℕ → ℕ
 every_rank_tabled k n = rank_refusal k n
 
 -- rank 19 as the last in kinds B and D too
-abbrev pub limit_of_AIn_every_kind : ℕ → ℕ → ℕ
-limit_of_AIn_every_kind k n = rank_refusal k n then check 20 (ltb 19 n)
+abbrev pub limit_of_A_in_every_kind : ℕ → ℕ → ℕ
+limit_of_A_in_every_kind k n = rank_refusal k n then check 20 (ltb 19 n)
 
 -- check 20 before check 6
 abbrev pub table_before_the_rank : ℕ → ℕ → ℕ

@@ -44,8 +44,8 @@ abbrev pub swaps_values : ℕ → ℕ → List ℕ → List ℤ → Outcome ℤ
 swaps_values k n u out = writes (word_checks k n u) (by_values u (identity (lanes (kind_of k) n))) out
 
 -- step n of kind D changes one sign, as in B
-abbrev pub step_of_BIn_D : ℕ → ℕ → List ℕ → List ℤ → Outcome ℤ
-step_of_BIn_D k n u out = writes (word_checks k n u) (window (pick (eqb k 3) B (kind_of k)) n u) out
+abbrev pub step_of_B_in_D : ℕ → ℕ → List ℕ → List ℤ → Outcome ℤ
+step_of_B_in_D k n u out = writes (word_checks k n u) (window (pick (eqb k 3) B (kind_of k)) n u) out
 
 -- the window is written before the checks are made
 abbrev pub refused_call_writes : ℕ → ℕ → List ℕ → List ℤ → Outcome ℤ
@@ -62,15 +62,15 @@ abbrev pub unshortened_word : ℕ → ℕ → List ℕ → List ℕ → Outcome 
 unshortened_word k n u out = writes (word_checks k n u) u out
 
 -- Q4
-abbrev pub block1_and_ACopy : Kind → ℕ → List ℕ → List ℕ
-block1_and_ACopy k n u = let b = block k n 1 (index_of n (place_from 1 (window k n u) 1)) in take (length u - length b) u ++ b
+abbrev pub block1_and_a_copy : Kind → ℕ → List ℕ → List ℕ
+block1_and_a_copy k n u = let b = block k n 1 (index_of n (place_from 1 (window k n u) 1)) in take (length u - length b) u ++ b
 
 abbrev pub peels_only_block1 : ℕ → ℕ → List ℕ → List ℕ → Outcome ℕ
-peels_only_block1 k n u out = writes (word_checks k n u) (block1_and_ACopy (kind_of k) n u) out
+peels_only_block1 k n u out = writes (word_checks k n u) (block1_and_a_copy (kind_of k) n u) out
 
 -- Q11
-abbrev pub stops_at_AShortest_word : ℕ → ℕ → List ℕ → List ℕ → Outcome ℕ
-stops_at_AShortest_word k n u out =
+abbrev pub stops_at_a_shortest_word : ℕ → ℕ → List ℕ → List ℕ → Outcome ℕ
+stops_at_a_shortest_word k n u out =
     let shortest = eqb (length u) (window_length (kind_of k) (window (kind_of k) n u)) in
     writes (word_checks k n u) (pick shortest u (word_normal_form (kind_of k) n u)) out
 
@@ -211,11 +211,11 @@ usual_length A w = usual_inversions w
 usual_length B w = usual_inversions w + usual_sum_pairs w + negatives w
 usual_length D w = usual_inversions w + usual_sum_pairs w
 
-abbrev pub usual_order_of_AWindow : ℕ → ℕ → List ℤ → Answer
-usual_order_of_AWindow k n w = answer_of (window_checks k n w) (usual_length (kind_of k) w)
+abbrev pub usual_order_of_a_window : ℕ → ℕ → List ℤ → Answer
+usual_order_of_a_window k n w = answer_of (window_checks k n w) (usual_length (kind_of k) w)
 
-abbrev pub usual_order_of_AWord : ℕ → ℕ → List ℕ → Answer
-usual_order_of_AWord k n u = answer_of (word_checks k n u) (usual_length (kind_of k) (window (kind_of k) n u))
+abbrev pub usual_order_of_a_word : ℕ → ℕ → List ℕ → Answer
+usual_order_of_a_word k n u = answer_of (word_checks k n u) (usual_length (kind_of k) (window (kind_of k) n u))
 
 abbrev pub negatives_not_counted : ℕ → ℕ → List ℤ → Answer
 negatives_not_counted k n w = answer_of (window_checks k n w) (inversions w + negative_sum_pairs w)
