@@ -71,10 +71,8 @@ pub(crate) fn apply(kind: u8, n: usize, word: &[u8], w: &mut [i8])
     requires window_of { WindowOf (kind_of kind) n w.old }
     ensures { w.new ≡ window_from (kind_of kind) n w.old word.now }
 {
-    let mut i = 0;
-    while i < word.len() {
-        act_on(kind, n, word[i] as usize, w);
-        i += 1;
+    for s in word {
+        act_on(kind, n, *s as usize, w);
     }
 }
 
@@ -84,12 +82,8 @@ fn set_identity(w: &mut [i8])
     requires { length w.old ≤ 127 }
     ensures { w.new ≡ identity (length w.old) }
 {
-    let mut i = 0;
-    let mut e: u8 = 1;
-    while i < w.len() {
-        w[i] = e as i8;
-        e += 1;
-        i += 1;
+    for (i, e) in w.iter_mut().enumerate() {
+        *e = (i + 1) as i8;
     }
 }
 

@@ -53,14 +53,11 @@ fn parts_of(w: &[i8]) -> Parts
     let mut pairs = (m * m - m) / 2;
     let mut negative_sum_pairs: usize = 0;
     let mut negatives: usize = 0;
-    let mut i = m;
-    while 0 < i {
-        i -= 1;
-        let e = w[i];
-        let s = size(e);
+    for e in w.iter().rev() {
+        let s = size(*e);
         let larger = larger_behind(m, behind, s);
         behind = with_size(behind, s);
-        if is_negative(e) {
+        if is_negative(*e) {
             pairs += larger;
             negative_sum_pairs += m - s as usize;
             negatives += 1;

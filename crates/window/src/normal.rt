@@ -122,12 +122,9 @@ fn set_places(kind: u8, rank: u8, w: &[i8], places: &mut [u8; 64])
     requires places_len { length places.old ≡ 64 }
     ensures { PlacesOf w.now places.new }
 {
-    let mut i = 0;
-    while i < w.len() {
-        let e = w[i];
-        let s = (size(e) as usize) - 1;
-        i += 1;
-        places[s] = place_of(e, i as u8);
+    for (i, e) in w.iter().enumerate() {
+        let s = (size(*e) as usize) - 1;
+        places[s] = place_of(*e, (i + 1) as u8);
     }
 }
 

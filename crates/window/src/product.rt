@@ -36,10 +36,8 @@ pub(crate) fn product_into(kind: u8, rank: u8, u: &[i8], v: &[i8], out: &mut [i8
     requires v_in_bounds { length v.now ≤ length out.old }
     ensures { out.new ≡ front (product u.now v.now) out.old }
 {
-    let mut i = 0;
-    while i < v.len() {
-        out[i] = image(kind, u, v[i]);
-        i += 1;
+    for (i, e) in v.iter().enumerate() {
+        out[i] = image(kind, u, *e);
     }
 }
 
@@ -51,12 +49,9 @@ pub(crate) fn inverse_into(kind: u8, rank: u8, w: &[i8], out: &mut [i8])
     requires w_in_bounds { length w.now ≤ length out.old }
     ensures { out.new ≡ front (inverse w.now) out.old }
 {
-    let mut i = 0;
-    while i < w.len() {
-        let e = w[i];
-        let p = (size(e) as usize) - 1;
-        i += 1;
-        out[p] = with_sign(e, i);
+    for (i, e) in w.iter().enumerate() {
+        let p = (size(*e) as usize) - 1;
+        out[p] = with_sign(*e, i + 1);
     }
 }
 

@@ -1,7 +1,5 @@
 -- What `search` leaves open of the proof of `product::product_into`.
 use mathlib.Core.Path.{sym, ◌∙◌}
-use native.Mathlib.Omega.{arith}
-use lib.ListN.{length-set}
 use Rattle.coxeter.proofs.Acceptance.{rank_accepted}
 use Rattle.window.proofs.product.Entries.{image_asks, product_step, product_end, product-written}
 use Rattle.window.proofs.product.product_into.Goals as goal
@@ -13,12 +11,8 @@ image-requires c = let pre = c.requires in
 
 pub loop-i-preserved : goal.loop-i-preserved
 loop-i-preserved c =
-    let at_loop = c.loop-i in (
-      omega arith,
-      simp length-set at_loop.invariant.1,
-      at_loop.invariant.2 ∙ product_step _ _ _ _ _ c.loop-i-test.true c.image-arg-1.given c.image.type_inv c.image.ensures,
-    )
+    c.loop-i.invariant ∙ product_step _ _ _ _ _ c.loop-i-test.true c.image-arg-1.given c.image.type_inv c.image.ensures
 
 pub returns : goal.returns
 returns c =
-    sym (product_end _ _ _ _ c.loop-i-test.false) ∙ sym c.loop-i.invariant.2 ∙ product-written _ _ _ c.requires.v_in_bounds
+    sym (product_end _ _ _ _ c.loop-i-test.false) ∙ sym c.loop-i.invariant ∙ product-written _ _ _ c.requires.v_in_bounds
