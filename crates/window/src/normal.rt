@@ -19,14 +19,11 @@ fn write_up(out: &mut [u8], at: usize, a: usize, b: usize) -> usize
     requires { (b < 256) × (at + length (rise a b) ≤ length out.old) }
     ensures { (result ≡ at + length (rise a b)) × (out.new ≡ sets out.old at (rise a b)) }
 {
-    let mut r = at;
-    let mut x = a;
-    while x <= b {
-        out[r] = x as u8;
-        r += 1;
-        x += 1;
+    let next = at + (b + 1).saturating_sub(a);
+    for (i, letter) in out[at..next].iter_mut().enumerate() {
+        *letter = (a + i) as u8;
     }
-    r
+    next
 }
 
 // Writes the letters from b down to a from the place `at` on and returns the place after them. The letters are counted
@@ -35,15 +32,11 @@ fn write_down(out: &mut [u8], at: usize, b: usize, a: usize) -> usize
     requires { (b < 255) × (a < 256) × (at + length (fall b a) ≤ length out.old) }
     ensures { (result ≡ at + length (fall b a)) × (out.new ≡ sets out.old at (fall b a)) }
 {
-    let mut r = at;
-    let least = a as u8;
-    let mut above = (b + 1) as u8;
-    while least < above {
-        above -= 1;
-        out[r] = above;
-        r += 1;
+    let next = at + (b + 1).saturating_sub(a);
+    for (i, letter) in out[at..next].iter_mut().enumerate() {
+        *letter = (b - i) as u8;
     }
-    r
+    next
 }
 
 // Where a block turns: its way up ends with `top`, and its way down starts with `high`.

@@ -55,19 +55,10 @@ pub(crate) fn inverse_into(kind: u8, rank: u8, w: &[i8], out: &mut [i8])
     }
 }
 
-// Whether the windows of m entries at the fronts of two work windows are equal. Every entry is looked at, without a
-// way out of the loop, so that many are compared at a time.
+// Whether the windows of m entries at the fronts of two work windows are equal.
 pub(crate) fn same_fronts(m: usize, a: &[i8], b: &[i8]) -> bool
     requires { (m ≤ length a.now) × (m ≤ length b.now) }
     ensures { result ≡ same_window (take m a.now) (take m b.now) }
 {
-    let mut same = true;
-    let mut i = 0;
-    while i < m {
-        if a[i] != b[i] {
-            same = false;
-        }
-        i += 1;
-    }
-    same
+    a[..m] == b[..m]
 }

@@ -9,14 +9,5 @@ pub(crate) fn is_shortlex(u: &[u8], v: &[u8]) -> bool
     if u.len() != v.len() {
         return u.len() < v.len();
     }
-    let mut i = 0;
-    while i < u.len() {
-        let a = u[i];
-        let b = v[i];
-        if a != b {
-            return b < a;
-        }
-        i += 1;
-    }
-    false
+    v.cmp(&u).is_lt()
 }
