@@ -76,14 +76,16 @@ pub(crate) fn apply(kind: u8, n: usize, word: &[u8], w: &mut [i8])
     }
 }
 
-// 1, 2, 3 and so on, counted in a byte that begins at 1: as i does it would be made from i, and each entry narrowed
-// from 64 bits.
+// 1, 2, 3 and so on, counted in a byte that begins at 1: a count from 0, as the places have, would be made from them,
+// and each entry narrowed from 64 bits.
 fn set_identity(w: &mut [i8])
     requires { length w.old ≤ 127 }
     ensures { w.new ≡ identity (length w.old) }
 {
-    for (i, e) in w.iter_mut().enumerate() {
-        *e = (i + 1) as i8;
+    let mut next: u8 = 1;
+    for e in w.iter_mut() {
+        *e = next as i8;
+        next += 1;
     }
 }
 

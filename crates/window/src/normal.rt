@@ -19,11 +19,12 @@ fn write_up(out: &mut [u8], at: usize, a: usize, b: usize) -> usize
     requires { (b < 256) × (at + length (rise a b) ≤ length out.old) }
     ensures { (result ≡ at + length (rise a b)) × (out.new ≡ sets out.old at (rise a b)) }
 {
-    let next = at + (b + 1).saturating_sub(a);
-    for (i, letter) in out[at..next].iter_mut().enumerate() {
-        *letter = (a + i) as u8;
+    let mut r = at;
+    for x in a..b + 1 {
+        out[r] = x as u8;
+        r += 1;
     }
-    next
+    r
 }
 
 // Writes the letters from b down to a from the place `at` on and returns the place after them. The letters are counted
@@ -33,8 +34,10 @@ fn write_down(out: &mut [u8], at: usize, b: usize, a: usize) -> usize
     ensures { (result ≡ at + length (fall b a)) × (out.new ≡ sets out.old at (fall b a)) }
 {
     let next = at + (b + 1).saturating_sub(a);
-    for (i, letter) in out[at..next].iter_mut().enumerate() {
-        *letter = (b - i) as u8;
+    let mut above = (b + 1) as u8;
+    for letter in out[at..next].iter_mut() {
+        above -= 1;
+        *letter = above;
     }
     next
 }

@@ -14,10 +14,11 @@ use lib.ListN.{length, length-drop, take, drop, set}
 use lib.Seq.{take-suc-set, take_all, length-take-le, drop-drop, sets, sets-eq}
 use borrow.Rule.Slice.PartMut.{put_mid}
 use borrow.Author.Tests.{le-leb, lt-leb, le-ltb}
-use Rattle.coxeter.specs.Kinds.{Kind, B, D, least, up}
+use Rattle.coxeter.specs.Kinds.{Kind, B, D, least}
 use Rattle.coxeter.specs.NormalForm.{down, rise, fall, block}
 use Rattle.coxeter.proofs.LetterRuns.{slide, fall-slide, slide_cons, slide_nil}
-use Rattle.coxeter.proofs.Basics.{length_up, up-append}
+use Rattle.coxeter.proofs.LetterRuns.{rise-span, span_cons, span_nil}
+use Rattle.coxeter.proofs.Lists.{Stored, Storing, stored_of_storing}
 
 -- ---- letters up and down
 
@@ -26,17 +27,9 @@ unfolding down
 length_down b zero = refl
 length_down b (suc n) = ap (λ (x : ℕ). suc x) (length_down (b - 1) n)
 
-pub up-rise : (a b n : ℕ) → n ≡ b + 1 - a → up a n ≡ rise a b
-unfolding rise
-up-rise a b n e = ap (up a) (omega arith)
-
 pub down-fall : (b a n : ℕ) → n ≡ b + 1 - a → down b n ≡ fall b a
 unfolding fall
 down-fall b a n e = ap (down b) (omega arith)
-
-pub length-rise : (a b : ℕ) → length (rise a b) ≡ b + 1 - a
-unfolding rise
-length-rise a b = length_up a (suc b - a) ∙ omega arith
 
 pub length-fall : (b a : ℕ) → length (fall b a) ≡ b + 1 - a
 unfolding fall
@@ -47,13 +40,16 @@ unfolding down
 down_snoc b zero = let e : b - 0 ≡ b = omega arith in rw e
 down_snoc b (suc i) = let e : b - 1 - i ≡ b - suc i = omega arith in ap (λ (l : List ℕ). b ∷ l) (down_snoc (b - 1) i ∙ rw e)
 
--- one letter more at the end, and stored behind those that are
-pub up_next : (a i : ℕ) (part : List ℕ) → i < length part → take i part ≡ up a i → take (i + 1) (set part i (a + i)) ≡ up a (i + 1)
-unfolding up
-up_next a i part l h = rw (up-append a i 1, ← h, add-one i) (take-suc-set part i (a + i) l)
+module _ {o : List ℕ} {at : ℕ} {u out : List ℕ} {r : ℕ} where
+  pub storing_up : {x b : ℕ} → x ≤ b → Storing o at u out r (rise x b) → Storing o at u out r (x ∷ rise (x + 1) b)
+  storing_up {x} {b} l h = rw (rise-span, add-one) (rw (rise-span, span_cons x (suc b) (omega arith)) at h)
 
-pub down_next : (b i : ℕ) (part : List ℕ) → i < length part → take i part ≡ down b i → take (i + 1) (set part i (b - i)) ≡ down b (i + 1)
-down_next b i part l h = rw (add-one i, down_snoc b i, ← h) (take-suc-set part i (b - i) l)
+  pub stored_up : {x b : ℕ} → b < x → Storing o at u out r (rise x b) → Stored o at u out r
+  stored_up {x} {b} l h = stored_of_storing (rw (rise-span, span_nil x (suc b) l) at h)
+
+-- one letter more at the end
+pub down_next : (b i : ℕ) {x : ℕ} (part : List ℕ) → i < length part → x ≡ b - i → take i part ≡ down b i → take (i + 1) (set part i x) ≡ down b (i + 1)
+down_next b i part l e h = rw (e, add-one i, down_snoc b i, ← h) (take-suc-set part i (b - i) l)
 
 -- how long a part of `out` is that has room for n letters
 pub part_long : (out : List ℕ) (at k n : ℕ) → at + n ≤ length out → k ≡ n → length (take k (drop at out)) ≡ n

@@ -6,12 +6,14 @@ use Rattle.coxeter.specs.Windows.{identity}
 use Rattle.window.proofs.action.Actions.{take-identity_next, take-identity_end}
 use Rattle.window.proofs.action.set_identity.Goals as goal
 
-pub loop-i-init : goal.loop-i-init
+pub loop-e-init : goal.loop-e-init
 unfolding identity up
-loop-i-init c = refl
+loop-e-init c = (refl, refl)
 
-pub loop-i-preserved : goal.loop-i-preserved
-loop-i-preserved c = take-identity_next c.loop-i.i c.loop-i.w (omega arith) (omega arith) c.loop-i.invariant
+pub loop-e-preserved : goal.loop-e-preserved
+loop-e-preserved c =
+    let i = c.loop-e.invariant in
+    (omega arith, rw i.0 (take-identity_next c.loop-e.e-index c.loop-e.w (omega arith) (omega arith) i.1))
 
 pub returns : goal.returns
-returns c = take-identity_end c.loop-i.i (omega arith) (omega arith) c.loop-i.auto.w c.loop-i.invariant
+returns c = take-identity_end c.loop-e.e-index (omega arith) (omega arith) c.loop-e.auto.w c.loop-e.invariant.1

@@ -11,12 +11,14 @@ use Rattle.window.proofs.normal.write_down.Goals as goal
 pub slice_bounds-letter-items-end : goal.slice_bounds-letter-items-end
 slice_bounds-letter-items-end c = omega (arith, length-fall c.args.b c.args.a, c.saturating_sub.ensures, c.requires)
 
-pub loop-i-init : goal.loop-i-init
+pub loop-letter-init : goal.loop-letter-init
 unfolding down
-loop-i-init c = refl
+loop-letter-init c = (omega arith, refl)
 
-pub loop-i-preserved : goal.loop-i-preserved
-loop-i-preserved c = down_next c.args.b c.loop-i.i c.loop-i.letter-items (omega arith) c.loop-i.invariant
+pub loop-letter-preserved : goal.loop-letter-preserved
+loop-letter-preserved c =
+    let held = c.loop-letter.invariant in
+    (omega arith, down_next c.args.b c.loop-letter.letter-index c.loop-letter.letter-items (omega arith) (omega arith) held.1)
 
 pub returns : goal.returns
 returns c =
@@ -24,6 +26,6 @@ returns c =
     let size = length-fall a.b a.a in
     let long = part_long a.out.now a.at (a.at + c.saturating_sub.result - a.at) (length (fall a.b a.a)) c.requires.2 (omega arith) in (
       omega arith,
-      stored_in_part a.out.now c.loop-i.letter-items (fall a.b a.a) a.at _ c.loop-i.i c.requires.2 (omega arith) (omega arith) (omega arith)
-          (c.loop-i.invariant ∙ down-fall a.b a.a c.loop-i.i (omega arith)),
+      stored_in_part a.out.now c.loop-letter.letter-items (fall a.b a.a) a.at _ c.loop-letter.letter-index c.requires.2 (omega arith) (omega arith) (omega arith)
+          (c.loop-letter.invariant.1 ∙ down-fall a.b a.a c.loop-letter.letter-index (omega arith)),
     )

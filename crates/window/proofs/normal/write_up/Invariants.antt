@@ -1,9 +1,8 @@
--- `normal::write_up` stores the letters from a up to b. The invariant: those before the place reached are stored.
+-- `normal::write_up` stores the letters from a up to b. The invariant: what is left to store is the letters from x on.
 -- Assumes nothing.
-use mathlib.Core.Path.{◌≡◌}
-use lib.ListN.{take}
-use Rattle.coxeter.specs.Kinds.{up}
+use Rattle.coxeter.specs.NormalForm.{rise}
+use Rattle.coxeter.proofs.Lists.{Storing}
 use Rattle.window.proofs.normal.write_up.Given as goal
 
-abbrev pub invariant-loop-i : goal.invariant-loop-i
-invariant-loop-i l = take l.i l.letter-items ≡ up l.a l.i
+abbrev pub invariant-loop-x : goal.invariant-loop-x
+invariant-loop-x l = Storing l.initial.out l.at (rise l.a l.b) l.out l.r (rise l.x l.b)
