@@ -5,8 +5,8 @@ use mathlib.Core.Path.{◌≡◌, refl, sym, ap, ◌∙◌}
 use mathlib.Core.List.{List}
 use Prim.Native.Nat.{ℕ}
 use borrow.Author.Tests.{ne_eqb}
-use Rattle.coxeter.specs.declared.Lanes.{Lanes}
-use Rattle.coxeter.specs.declared.Lanes.TheVariants.{Count, Refused}
+use Rattle.coxeter.specs.answers.Lanes.{Lanes}
+use Rattle.coxeter.specs.answers.Lanes.{Count, Refused}
 use Rattle.coxeter.specs.Kinds.{kind_of, lanes}
 use Rattle.coxeter.specs.Checks.{◌then◌, rank_refusal, word_refusal, RankOf, WordOf}
 use Rattle.coxeter.specs.Calls.{lanes_of}

@@ -3,7 +3,8 @@
 use mathlib.Core.Path.{◌≡◌, refl}
 use Prim.Native.Nat.{ℕ}
 use Rattle.coxeter.proofs.KindLaws.{kind_of-one, by_kind_else}
-use Rattle.coxeter.specs.Kinds.{Kind, greatest}
+use Rattle.coxeter.specs.declared.Kind.{Kind}
+use Rattle.coxeter.specs.Kinds.{greatest}
 use Rattle.refusals.proofs.checks.greatest.Goals as goal
 
 pub returns-then-kind-eq1 : goal.returns-then-kind-eq1

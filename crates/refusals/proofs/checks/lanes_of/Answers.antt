@@ -2,7 +2,8 @@
 -- Assumes nothing.
 use mathlib.Core.Path.{◌≡◌, refl, sym, ◌∙◌}
 use Prim.Native.Nat.{ℕ}
-use Rattle.coxeter.specs.Kinds.{Kind, lanes}
+use Rattle.coxeter.specs.declared.Kind.{Kind}
+use Rattle.coxeter.specs.Kinds.{lanes}
 use Rattle.coxeter.proofs.KindLaws.{kind_of-one, by_kind_else}
 use Rattle.coxeter.proofs.LaneCounts.{lanes-refused, lanes_counted}
 use Rattle.refusals.proofs.checks.lanes_of.Goals as goal

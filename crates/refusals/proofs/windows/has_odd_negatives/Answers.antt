@@ -8,7 +8,8 @@ use Rattle.coxeter.proofs.Parity.{flag_is_odd}
 use Rattle.coxeter.specs.Checks.{odd_negatives}
 use Rattle.refusals.proofs.windows.has_odd_negatives.Goals as goal
 use Rattle.refusals.proofs.windows.has_odd_negatives.Goals.{in_default-via-then-kind-lt1, in_default-via-else-kind-lt1+else-kind-lt3}
-use Rattle.coxeter.specs.Kinds.{D, kind_of}
+use Rattle.coxeter.specs.declared.Kind.TheVariants.{D}
+use Rattle.coxeter.specs.Kinds.{kind_of}
 use mathlib.Core.Path.{◌≡◌}
 
 pub returns-in-1 : goal.returns-in-1

@@ -4,7 +4,7 @@ use mathlib.Core.Path.{◌≡◌, refl, ◌∙◌, ap}
 use Rattle.coxeter.proofs.KindLaws.{kind_of-one, by_kind_else}
 use Rattle.refusals.proofs.Bytes.{element_back}
 use mathlib.Core.Bool.{false}
-use Rattle.coxeter.specs.Kinds.{Kind}
+use Rattle.coxeter.specs.declared.Kind.{Kind}
 use Rattle.coxeter.specs.Length.{negative}
 use Rattle.coxeter.specs.Checks.{negative_in_A}
 use Rattle.refusals.proofs.windows.negative_in_a.Goals as goal
