@@ -1,6 +1,6 @@
 // The checks on a kind, a rank and a word (C5 to C8 of the specification), each made by one function. A refusal is its
 // number; 0 stands for none.
-ghost use Rattle.std.specs.Prelude.{◌≡◌, ◌+◌, ◌≤◌, max};
+ghost use Rattle.std.specs.Prelude.{◌≡◌, ◌+◌, ◌≤◌};
 ghost use Rattle.coxeter.specs.Kinds as kinds;
 ghost use Rattle.coxeter.specs.Kinds.{kind_of, lanes};
 ghost use Rattle.coxeter.specs.Checks.{◌then◌, rank_refusal, word_refusal, wrong_letter};
@@ -72,19 +72,7 @@ pub fn lanes_of(kind: u8, rank: u8) -> Lanes
 fn less_one(s: u8) -> u8
     ensures { (s ≡ 0 → result ≡ 255) × (1 ≤ s → s ≡ result + 1) }
 {
-    if s == 0 {
-        return 255;
-    }
-    s - 1
-}
-
-fn greater_of(a: u8, b: u8) -> u8
-    ensures { result ≡ max a b }
-{
-    if a < b {
-        return b;
-    }
-    a
+    s.wrapping_sub(1)
 }
 
 // C8. Every letter is looked at, without a way out of the loop, so that many letters are taken at a time; the rank
@@ -92,13 +80,11 @@ fn greater_of(a: u8, b: u8) -> u8
 fn has_wrong_letter(rank: u8, word: &[u8]) -> bool
     ensures { result ≡ wrong_letter rank word.now }
 {
-    let mut highest = 0;
-    let mut i = 0;
-    while i < word.len() {
-        highest = greater_of(highest, less_one(word[i]));
-        i += 1;
+    let mut highest: u8 = 0;
+    for s in word {
+        highest = highest.max(less_one(*s));
     }
-    (0 < word.len()) & (rank <= highest)
+    !word.is_empty() & (rank <= highest)
 }
 
 // C7, C8: of a word whose kind and rank passed.

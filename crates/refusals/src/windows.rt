@@ -31,14 +31,11 @@ fn has_wrong_entry(kind: u8, m: usize, w: &[i8]) -> bool
     ensures { result ≡ wrong_entry (kind_of kind) m w.now }
 {
     let mut marks = marks_64();
-    let mut i = w.len();
-    while 0 < i {
-        i -= 1;
-        let e = w[i];
-        if negative_in_a(kind, e) {
+    for e in w.iter().rev() {
+        if negative_in_a(kind, *e) {
             return true;
         }
-        let s = size(e) as usize;
+        let s = size(*e) as usize;
         if s == 0 {
             return true;
         }
@@ -60,10 +57,8 @@ pub fn odd_negatives(w: &[i8]) -> bool
     ensures { result ≡ flag_after w.now }
 {
     let mut flag = false;
-    let mut i = 0;
-    while i < w.len() {
-        flag = flag ^ is_negative(w[i]);
-        i += 1;
+    for e in w {
+        flag = flag ^ is_negative(*e);
     }
     flag
 }
