@@ -1,17 +1,21 @@
 -- What the code's kinds, groups and refusals are in the numbers of the definitions.
 -- Assumes nothing.
 use mathlib.Core.Path.{◌≡◌, refl, sym, ap, subst, ◌∙◌}
-use Prim.Native.Nat.{ℕ, ◌≤◌}
+use Prim.Native.Nat.{ℕ, ◌≤◌, ◌<◌}
 use native.Mathlib.Omega.{arith}
-use borrow.Author.Tests.{le-ltb}
+use mathlib.Core.Bool.{true, false, or-true}
+use lib.Dec.{ltb}
+use borrow.Author.Tests.{le-ltb, lt-ltb}
+use Rattle.std.specs.Prelude.{Result, Ok, Err, IsErr, IsErrAnd}
 use Rattle.coxeter.specs.declared.Kind.{Kind}
 use Rattle.coxeter.specs.declared.Kind.TheVariants.{A, B, D}
 use Rattle.coxeter.specs.Kinds.{kind_of, kind_number, lanes, least, greatest}
-use Rattle.coxeter.specs.Checks.{wrong_kind, wrong_rank, rank_refusal, RankOf}
+use Rattle.coxeter.specs.Checks.{check, ◌then◌, wrong_kind, wrong_rank, rank_refusal, RankOf}
 use Rattle.coxeter.specs.declared.Refusal.{Refusal}
-use Rattle.coxeter.specs.Refusals.{number}
+use Rattle.coxeter.specs.Refusals.{number, refusal_of}
 use Rattle.coxeter.specs.declared.Refusal.TheVariants.{BookSize, BookCount, BookLayout, NoSuchPreset, UnknownKind, RankOutOfRange, WordTooLong, WrongLetter, WindowLength, WrongEntry, OddNegatives, PlacePastEnd, NewBookTooLong, OutputTooShort, ListTooShort, StepAboveRank, WrongLaneCount, TooManyLanes, OutOfReach, NoDelayTable, RetiredGroup}
 use Rattle.coxeter.proofs.Acceptance.{Ranked}
+use Rattle.coxeter.proofs.Refusals.{then_refused, then_next}
 
 pub kind_of_number : (k : Kind) → kind_of (kind_number k) ≡ k
 unfolding kind_of
@@ -59,3 +63,39 @@ group_lanes_le D n h = h.1
 -- no refusal is 0, which stands for none
 pub number_positive : (r : Refusal) → number r ≡ 0 → ⊥
 number_positive = elim [ BookSize ↦ λ e. omega (arith, e) | BookCount ↦ λ e. omega (arith, e) | BookLayout ↦ λ e. omega (arith, e) | NoSuchPreset ↦ λ e. omega (arith, e) | UnknownKind ↦ λ e. omega (arith, e) | RankOutOfRange ↦ λ e. omega (arith, e) | WordTooLong ↦ λ e. omega (arith, e) | WrongLetter ↦ λ e. omega (arith, e) | WindowLength ↦ λ e. omega (arith, e) | WrongEntry ↦ λ e. omega (arith, e) | OddNegatives ↦ λ e. omega (arith, e) | PlacePastEnd ↦ λ e. omega (arith, e) | NewBookTooLong ↦ λ e. omega (arith, e) | OutputTooShort ↦ λ e. omega (arith, e) | ListTooShort ↦ λ e. omega (arith, e) | StepAboveRank ↦ λ e. omega (arith, e) | WrongLaneCount ↦ λ e. omega (arith, e) | TooManyLanes ↦ λ e. omega (arith, e) | OutOfReach ↦ λ e. omega (arith, e) | NoDelayTable ↦ λ e. omega (arith, e) | RetiredGroup ↦ λ e. omega (arith, e) ]
+
+-- ---- checks made one after another, as code meets them: what `?` hands on, and what it learns where it goes on
+
+-- a result that `?` makes of the refusal e, the number of which is q
+pub handed_on : {X : Type 0} (r : Result X Refusal) (e : Refusal) {q : ℕ} → IsErr r × IsErrAnd r (λ (x : Refusal). x ≡ e) → number e ≡ q → refusal_of r ≡ q
+handed_on (Ok x) e h g = absurd h.1
+handed_on (Err x) e h g = ap number h.1 ∙ g
+
+-- the checks so far refuse with e
+pub refused_first : (q t : ℕ) (e : Refusal) → number e ≡ q → number e ≡ (q then t)
+refused_first q t e g = then_refused q (number e) t g (number_positive e)
+
+-- they pass, and the next one refuses with e, or passes with 0
+pub then_passed : (q t s : ℕ) → 0 ≡ q → s ≡ t → s ≡ (q then t)
+then_passed q t s z g = then_next q 0 t s z refl g
+
+-- check 5 passed for the kind of a group: then check 6 is what is left
+by_check_6 : (k : Kind) (n : ℕ) → rank_refusal (kind_number k) n ≡ check 6 (wrong_rank k n)
+unfolding rank_refusal wrong_kind kind_of
+by_check_6 A n = refl
+by_check_6 B n = refl
+by_check_6 D n = refl
+
+-- what the tests of a rank make of check 6
+module _ (k : Kind) (j n : ℕ) (e : kind_number k ≡ j) where
+  pub rank_below : n < least k → 6 ≡ rank_refusal j n
+  unfolding wrong_rank
+  rank_below l = subst (λ i. 6 ≡ rank_refusal i n) e (rw (by_check_6 k n, lt-ltb n (least k) l) refl)
+
+  pub rank_above : greatest k < n → 6 ≡ rank_refusal j n
+  unfolding wrong_rank
+  rank_above l = subst (λ i. 6 ≡ rank_refusal i n) e (rw (by_check_6 k n, lt-ltb (greatest k) n l, or-true (ltb n (least k))) refl)
+
+  pub rank_inside : least k ≤ n → n ≤ greatest k → 0 ≡ rank_refusal j n
+  unfolding wrong_rank
+  rank_inside l g = subst (λ i. 0 ≡ rank_refusal i n) e (rw (by_check_6 k n, le-ltb n (least k) l, le-ltb (greatest k) n g) refl)
