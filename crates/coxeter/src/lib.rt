@@ -5,7 +5,7 @@
 ghost use Rattle.std.specs.Prelude.{◌≡◌, ◌+◌, ◌≤◌, MatchResult};
 ghost use Rattle.coxeter.specs.Kinds.{kind_of, kind_number, lanes, least, greatest};
 ghost use Rattle.coxeter.specs.Refusals.{number};
-ghost use Rattle.coxeter.specs.Checks.{wrong_kind, check};
+ghost use Rattle.coxeter.specs.Checks.{wrong_kind, check, WordOf, WindowOf};
 
 // K2, D11: the three kinds of groups; no other can be named.
 #[derive(Clone, Copy, Debug, PartialEq, Eq)]
@@ -84,6 +84,22 @@ impl Group {
             Kind::B | Kind::D => n,
         }
     }
+}
+
+// W1, W2: a word of a group, which passed checks 7 and 8.
+#[derive(Clone, Copy)]
+pub struct Word<'a> {
+    pub group: Group,
+    pub letters: &'a [u8],
+    ghost accepted: { WordOf group.rank letters.now },
+}
+
+// W5: a window of a group, which passed checks 9 to 11.
+#[derive(Clone, Copy)]
+pub struct Window<'a> {
+    pub group: Group,
+    pub entries: &'a [i8],
+    ghost accepted: { WindowOf group.kind group.rank entries.now },
 }
 
 // CO3: why a call is refused: the check that fails. As a number it is the check's.

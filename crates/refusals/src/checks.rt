@@ -6,7 +6,7 @@ ghost use Rattle.coxeter.specs.answers.Lanes.{as_lanes};
 ghost use Rattle.coxeter.specs.Checks.{◌then◌, rank_refusal, word_refusal, wrong_letter};
 ghost use Rattle.coxeter.specs.Calls.{lanes_of};
 
-use coxeter::{Group, Kind, Refusal};
+use coxeter::{Group, Kind, Refusal, Word};
 
 // C7: the most letters of a word.
 const LONGEST: usize = 4096;
@@ -56,42 +56,51 @@ fn check_word(rank: u8, word: &[u8]) -> Result<(), Refusal>
     Ok(())
 }
 
-// I33, K3: the group of a preset, after checks 5 to 8.
-pub fn group_of_preset(kind: u8, rank: u8, word: &[u8]) -> Result<Group, Refusal>
-    ensures refusal { refusal_of result ≡ (rank_refusal kind rank then word_refusal rank word.now) }
-    ensures group { IfOk result (λ g. (g.kind ≡ kind_of kind) × (g.rank ≡ rank)) }
+// I33: the word of a preset, after checks 5 to 8.
+pub fn accepted_word<'a>(kind: u8, rank: u8, letters: &'a [u8]) -> Result<Word<'a>, Refusal>
+    ensures refusal { refusal_of result ≡ (rank_refusal kind rank then word_refusal rank letters.now) }
+    ensures word { IfOk result (λ u. (u.group.kind ≡ kind_of kind) × (u.group.rank ≡ rank) × (u.letters ≡ letters.entry)) }
 {
     let group = group_of(kind, rank)?;
-    check_word(rank, word)?;
-    Ok(group)
+    check_word(rank, letters)?;
+    Ok(Word { group, letters })
 }
 
-// I33, CO4, K3: the groups of two presets, after checks 5 to 8 of both, all of the first's before the second's.
-pub fn groups_of_presets(
+// I33, CO4: the words of two presets, after checks 5 to 8 of both, all of the first's before the second's.
+pub fn accepted_presets<'a, 'b>(
     kind_a: u8,
     rank_a: u8,
-    a: &[u8],
+    a: &'a [u8],
     kind_b: u8,
     rank_b: u8,
-    b: &[u8],
-) -> Result<(Group, Group), Refusal>
+    b: &'b [u8],
+) -> Result<(Word<'a>, Word<'b>), Refusal>
     ensures refusal { refusal_of result ≡ (rank_refusal kind_a rank_a then word_refusal rank_a a.now
         then rank_refusal kind_b rank_b then word_refusal rank_b b.now) }
-    ensures groups { IfOk result (λ g. ((g.0.kind ≡ kind_of kind_a) × (g.0.rank ≡ rank_a))
-        × ((g.1.kind ≡ kind_of kind_b) × (g.1.rank ≡ rank_b))) }
+    ensures words { IfOk result (λ p. ((p.0.group.kind ≡ kind_of kind_a) × (p.0.group.rank ≡ rank_a) × (p.0.letters ≡ a.entry))
+        × ((p.1.group.kind ≡ kind_of kind_b) × (p.1.group.rank ≡ rank_b) × (p.1.letters ≡ b.entry))) }
 {
-    let first = group_of_preset(kind_a, rank_a, a)?;
-    let second = group_of_preset(kind_b, rank_b, b)?;
+    let first = accepted_word(kind_a, rank_a, a)?;
+    let second = accepted_word(kind_b, rank_b, b)?;
     Ok((first, second))
 }
 
-// I33, CO4, K3: the group of two words of one kind and rank, after their checks: kind and rank once, then the first word,
-// then the second.
-pub fn group_of_words(kind: u8, rank: u8, u: &[u8], v: &[u8]) -> Result<Group, Refusal>
+// I33, CO4: two words of one kind and rank, after their checks: kind and rank once, then the first word, then the second.
+pub fn accepted_words<'a, 'b>(
+    kind: u8,
+    rank: u8,
+    u: &'a [u8],
+    v: &'b [u8],
+) -> Result<(Word<'a>, Word<'b>), Refusal>
     ensures refusal { refusal_of result ≡ (rank_refusal kind rank then word_refusal rank u.now then word_refusal rank v.now) }
-    ensures group { IfOk result (λ g. (g.kind ≡ kind_of kind) × (g.rank ≡ rank)) }
+    ensures words { IfOk result (λ p. ((p.0.group.kind ≡ kind_of kind) × (p.0.group.rank ≡ rank) × (p.0.letters ≡ u.entry))
+        × ((p.1.group.kind ≡ kind_of kind) × (p.1.group.rank ≡ rank) × (p.1.letters ≡ v.entry))) }
 {
-    let group = group_of_preset(kind, rank, u)?;
+    let first = accepted_word(kind, rank, u)?;
     check_word(rank, v)?;
-    Ok(group)
+    let second = Word {
+        group: first.group,
+        letters: v,
+    };
+    Ok((first, second))
 }

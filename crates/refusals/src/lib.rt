@@ -1,5 +1,5 @@
 // Checks 5 to 11 (section C of the specification), each made by one function, for the calls of every layer above: what
-// passed is handed on as the group of its kind and rank, and what did not as its refusal. No public function has a
+// passed is handed on as a group, a word or a window, and what did not as its refusal. No public function has a
 // `requires`, and none writes anything.
 #![tactic(auto)]
 
@@ -7,7 +7,7 @@ mod checks;
 mod entries;
 mod windows;
 
-pub use checks::{group_of, group_of_preset, group_of_words, groups_of_presets};
-pub use coxeter::{Group, Kind, Refusal};
+pub use checks::{accepted_presets, accepted_word, accepted_words, group_of};
+pub use coxeter::{Group, Kind, Refusal, Window, Word};
 pub use entries::{is_negative, size};
-pub use windows::{group_of_window, group_of_windows, odd_negatives};
+pub use windows::{accepted_window, accepted_windows, odd_negatives};

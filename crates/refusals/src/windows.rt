@@ -7,7 +7,7 @@ ghost use Rattle.coxeter.specs.Parity.{flag_after};
 
 use crate::checks::group_of;
 use crate::entries::{is_negative, size};
-use coxeter::{Group, Kind, Refusal};
+use coxeter::{Group, Kind, Refusal, Window};
 
 fn negative_in_a(kind: Kind, e: i8) -> bool
     ensures { result ≡ negative_in_A kind e }
@@ -90,24 +90,34 @@ fn check_window(group: Group, w: &[i8]) -> Result<(), Refusal>
     Ok(())
 }
 
-// I33: the group of a window, after checks 5, 6 and 9 to 11.
-pub fn group_of_window(kind: u8, rank: u8, w: &[i8]) -> Result<Group, Refusal>
-    ensures refusal { refusal_of result ≡ (rank_refusal kind rank then window_refusal (kind_of kind) rank w.now) }
-    ensures group { IfOk result (λ g. (g.kind ≡ kind_of kind) × (g.rank ≡ rank)) }
+// I33: the window of a kind and a rank, after checks 5, 6 and 9 to 11.
+pub fn accepted_window<'a>(kind: u8, rank: u8, entries: &'a [i8]) -> Result<Window<'a>, Refusal>
+    ensures refusal { refusal_of result ≡ (rank_refusal kind rank then window_refusal (kind_of kind) rank entries.now) }
+    ensures window { IfOk result (λ w. (w.group.kind ≡ kind_of kind) × (w.group.rank ≡ rank) × (w.entries ≡ entries.entry)) }
 {
     let group = group_of(kind, rank)?;
-    check_window(group, w)?;
-    Ok(group)
+    check_window(group, entries)?;
+    Ok(Window { group, entries })
 }
 
-// I33, CO4: the group of two windows of one kind and rank, after checks 5, 6 and 9 to 11: kind and rank once, then the
-// first window, then the second.
-pub fn group_of_windows(kind: u8, rank: u8, u: &[i8], v: &[i8]) -> Result<Group, Refusal>
+// I33, CO4: two windows of one kind and rank, after checks 5, 6 and 9 to 11: kind and rank once, then the first window,
+// then the second.
+pub fn accepted_windows<'a, 'b>(
+    kind: u8,
+    rank: u8,
+    u: &'a [i8],
+    v: &'b [i8],
+) -> Result<(Window<'a>, Window<'b>), Refusal>
     ensures refusal { refusal_of result ≡ (rank_refusal kind rank then window_refusal (kind_of kind) rank u.now
         then window_refusal (kind_of kind) rank v.now) }
-    ensures group { IfOk result (λ g. (g.kind ≡ kind_of kind) × (g.rank ≡ rank)) }
+    ensures windows { IfOk result (λ p. ((p.0.group.kind ≡ kind_of kind) × (p.0.group.rank ≡ rank) × (p.0.entries ≡ u.entry))
+        × ((p.1.group.kind ≡ kind_of kind) × (p.1.group.rank ≡ rank) × (p.1.entries ≡ v.entry))) }
 {
-    let group = group_of_window(kind, rank, u)?;
-    check_window(group, v)?;
-    Ok(group)
+    let first = accepted_window(kind, rank, u)?;
+    check_window(first.group, v)?;
+    let second = Window {
+        group: first.group,
+        entries: v,
+    };
+    Ok((first, second))
 }
