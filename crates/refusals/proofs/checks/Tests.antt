@@ -12,7 +12,8 @@ use lib.Dec.{eqb, ltb, leb}
 use lib.IntN.{ℤ, pos, nat_abs}
 use lib.ListN.{length, get_or, take, drop, drop_of_length-le}
 use borrow.Author.Tests.{eq-eqb, ne_eqb, lt-ltb, le-ltb, le-leb, lt-leb}
-use Rattle.coxeter.specs.Kinds.{Kind, pick, lanes}
+use Rattle.coxeter.specs.declared.Kind.{Kind}
+use Rattle.coxeter.specs.Kinds.{pick, lanes}
 use Rattle.coxeter.specs.Length.{negative}
 use Rattle.coxeter.specs.Checks.{wrong_kind, wrong_letter, wrong_at, wrong_entry, has_size, negative_in_A}
 use Rattle.coxeter.specs.Checks.{odd_negatives, wrong_lanes, window_refusal}

@@ -12,7 +12,7 @@ use lib.IntN.{ℤ, pos, nat_abs}
 use lib.ListN.{length, get_or, set, length-set, drop, drop_of_length-le}
 use lib.Seq.{get_or-set_same, get_or-set_other}
 use borrow.Author.Tests.{eq-eqb, ne_eqb}
-use Rattle.coxeter.specs.Kinds.{Kind}
+use Rattle.coxeter.specs.declared.Kind.{Kind}
 use Rattle.coxeter.specs.Checks.{wrong_at, wrong_entry, has_size, negative_in_A}
 use Rattle.refusals.proofs.Backwards.{LastTaken}
 use Rattle.refusals.proofs.checks.Tests.{wrong_at-negative, wrong_at_zero, wrong_at-above, wrong_at_repeats, wrong_at_else}

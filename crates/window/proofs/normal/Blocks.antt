@@ -14,7 +14,9 @@ use lib.ListN.{length, length-drop, take, drop, set}
 use lib.Seq.{take-suc-set, take_all, length-take-le, drop-drop, sets, sets-eq}
 use borrow.Rule.Slice.PartMut.{put_mid}
 use borrow.Author.Tests.{le-leb, lt-leb, le-ltb}
-use Rattle.coxeter.specs.Kinds.{Kind, B, D, least}
+use Rattle.coxeter.specs.declared.Kind.{Kind}
+use Rattle.coxeter.specs.declared.Kind.TheVariants.{B, D}
+use Rattle.coxeter.specs.Kinds.{least}
 use Rattle.coxeter.specs.NormalForm.{down, rise, fall, block}
 use Rattle.coxeter.proofs.LetterRuns.{slide, fall-slide, slide_cons, slide_nil}
 use Rattle.coxeter.proofs.LetterRuns.{rise-span, span_cons, span_nil}

@@ -15,7 +15,9 @@ use lib.ListN.{length, get_or, drop, set, drop_of_length-le}
 use lib.Seq.{sets}
 use mir.Syntax.{w8, w64}
 use mir.Val.{Fits, SFits}
-use Rattle.coxeter.specs.Kinds.{Kind, A, B, D, pick, kind_of}
+use Rattle.coxeter.specs.declared.Kind.{Kind}
+use Rattle.coxeter.specs.declared.Kind.TheVariants.{A, B, D}
+use Rattle.coxeter.specs.Kinds.{pick, kind_of}
 use Rattle.coxeter.specs.Windows.{at, product, signed, inverse}
 use Rattle.coxeter.specs.Length.{negative}
 use Rattle.coxeter.specs.Checks.{WindowOf, negative_in_A}

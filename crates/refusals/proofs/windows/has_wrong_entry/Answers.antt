@@ -4,7 +4,6 @@ use native.Mathlib.Omega.{arith}
 use lib.IntN.{pos, nat_abs}
 use Rattle.std.specs.Iterator.Adapters.{rev_source}
 use Rattle.std.specs.Slice.Iter.{iter_rest}
-use Rattle.coxeter.specs.Kinds.{kind_of}
 use Rattle.coxeter.specs.Checks.{negative_in_A}
 use Rattle.refusals.proofs.Backwards.{LastTaken, front_whole, last_taken}
 use Rattle.refusals.proofs.Bytes.{element_back}
@@ -23,8 +22,8 @@ taken : (c : After-negative_in_a) → LastTaken (iter_rest (rev_source c.loop-e.
 taken c = last_taken _ _ _ _ _ c.loop-e.invariant.2 (rw c.in-Some.is at c.next.ensures.steps)
 
 -- the sign that is tested is that of this entry
-sign_of : (c : After-negative_in_a) → negative_in_A (kind_of c.args.kind) c.in-Some.e.now ≡ c.negative_in_a.result
-sign_of c = sym (c.negative_in_a.ensures ∙ ap (negative_in_A (kind_of c.args.kind)) (element_back c.in-Some.e.now (omega arith)))
+sign_of : (c : After-negative_in_a) → negative_in_A c.args.kind c.in-Some.e.now ≡ c.negative_in_a.result
+sign_of c = sym (c.negative_in_a.ensures ∙ ap (negative_in_A c.args.kind) (element_back c.in-Some.e.now (omega arith)))
 
 -- the size that is tested is that of this entry
 size_of : (c : After-size-s) → c.size-s.result ≡ nat_abs c.in-Some.e.now

@@ -4,7 +4,6 @@
 use lib.ListN.{length}
 use Rattle.std.specs.Iterator.Adapters.{rev_source}
 use Rattle.std.specs.Slice.Iter.{iter_rest}
-use Rattle.coxeter.specs.Kinds.{kind_of}
 use Rattle.refusals.proofs.Backwards.{IsFront}
 use Rattle.refusals.proofs.windows.Marks.{MarkedFrom}
 use Rattle.refusals.proofs.windows.has_wrong_entry.Given as goal
@@ -14,4 +13,4 @@ invariant-loop-e l =
     (goal.iterator-loop-e).can_next l.e-iterator
     × (goal.iterator-loop-e).is_finite l.e-iterator
     × IsFront (iter_rest (rev_source l.e-iterator)) l.w
-    × MarkedFrom (kind_of l.kind) l.m l.w l.marks (length (iter_rest (rev_source l.e-iterator)))
+    × MarkedFrom l.kind l.m l.w l.marks (length (iter_rest (rev_source l.e-iterator)))
