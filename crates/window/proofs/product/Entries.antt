@@ -17,7 +17,7 @@ use mir.Syntax.{w8, w64}
 use mir.Val.{Fits, SFits}
 use Rattle.coxeter.specs.declared.Kind.{Kind}
 use Rattle.coxeter.specs.declared.Kind.TheVariants.{A, B, D}
-use Rattle.coxeter.specs.Kinds.{pick, kind_of}
+use Rattle.coxeter.specs.Kinds.{pick}
 use Rattle.coxeter.specs.Windows.{at, product, signed, inverse}
 use Rattle.coxeter.specs.Length.{negative}
 use Rattle.coxeter.specs.Checks.{WindowOf, negative_in_A}
@@ -25,7 +25,6 @@ use Rattle.coxeter.specs.Calls.{front}
 use Rattle.coxeter.proofs.Lists.{drop_next}
 use Rattle.coxeter.proofs.Products.{length-product}
 use Rattle.coxeter.proofs.Inverses.{length-inverse}
-use Rattle.coxeter.proofs.KindLaws.{kind_of-one}
 use Rattle.coxeter.proofs.Sizes.{nat_abs-neg_ℤ, PositiveInA, positive_in_A_head, positive_in_A_tail}
 use Rattle.coxeter.proofs.Levels.{accepted_of_refusal}
 use Rattle.coxeter.proofs.Places.{between-get_or}
@@ -82,11 +81,11 @@ sign_at D n w i g l = refl
 -- ---- the product
 
 -- an entry of kind A as an index
-pub positive_index : (k : ℕ) (e : ℤ) → k ≡ 1 → negative_in_A (kind_of k) e ≡ false → SFits w8 e
+pub positive_index : (k : Kind) (e : ℤ) → k ≡ A → negative_in_A k e ≡ false → SFits w8 e
     → (negative e ≡ false) × T (non_neg (held e)) × Fits w64 (nat_abs (held e))
 unfolding negative_in_A
 positive_index k e q n f =
-    let s : negative e ≡ false = rw (kind_of-one k q) at n in
+    let s : negative e ≡ false = rw q at n in
     let p = size_of_positive e f (ap (λ (z : ℤ). lt_z z (pos 0)) (byte_back e f) ∙ negative_is_test e ∙ s) in
     (s, p.0, record { fits = omega (arith, p.1.fits) })
 

@@ -6,14 +6,12 @@ use Rattle.window.proofs.action.Actions.{refusal_next, window_from_next, window_
 use Rattle.window.proofs.action.apply.Goals as goal
 
 pub loop-s-init : goal.loop-s-init
-loop-s-init c =
-    let requires = c.requires in
-    record { steps = letters_accepted _ _ requires.word_of; passes = requires.window_of; leads = refl }
+loop-s-init c = record { steps = letters_accepted _ _ c.args.word.accepted; passes = c.requires; leads = refl }
 
 pub act_on-requires : goal.act_on-requires
 act_on-requires c =
     let i = c.loop-s.invariant in
-    record { le_s = letter_within _ _ _ c.loop-s-test.true i.steps; ranked = c.requires.ranked; window_of = i.passes }
+    record { le_s = letter_within _ _ _ c.loop-s-test.true i.steps; window_of = i.passes }
 
 pub loop-s-preserved : goal.loop-s-preserved
 loop-s-preserved c =

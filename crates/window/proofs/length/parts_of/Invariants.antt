@@ -11,5 +11,5 @@ abbrev pub invariant-loop-e : goal.invariant-loop-e
 invariant-loop-e l =
     (goal.iterator-loop-e).can_next l.e-iterator
     × (goal.iterator-loop-e).is_finite l.e-iterator
-    × IsFront (iter_rest (rev_source l.e-iterator)) l.w
-    × Gone l.w l.behind l.pairs l.negative_sum_pairs l.negatives (length (iter_rest (rev_source l.e-iterator)))
+    × IsFront (iter_rest (rev_source l.e-iterator)) l.window.entries.now
+    × Gone l.window.entries.now l.behind l.pairs l.negative_sum_pairs l.negatives (length (iter_rest (rev_source l.e-iterator)))

@@ -5,4 +5,4 @@ use Rattle.window.proofs.normal.StoredPlaces.{PlacesStored}
 use Rattle.window.proofs.normal.set_places.Given as goal
 
 abbrev pub invariant-loop-i : goal.invariant-loop-i
-invariant-loop-i l = PlacesStored l.w l.places l.i
+invariant-loop-i l = PlacesStored l.window.entries.now l.places l.i

@@ -8,4 +8,4 @@ use Rattle.window.proofs.product.Scatter.{scatter}
 use Rattle.window.proofs.product.inverse_into.Given as goal
 
 abbrev pub invariant-loop-i : goal.invariant-loop-i
-invariant-loop-i l = scatter l.initial.out 1 l.w ≡ scatter l.out (l.i + 1) (drop l.i l.w)
+invariant-loop-i l = scatter l.initial.out 1 l.window.entries.now ≡ scatter l.out (l.i + 1) (drop l.i l.window.entries.now)

@@ -8,4 +8,4 @@ use Rattle.coxeter.specs.Windows.{product}
 use Rattle.window.proofs.product.product_into.Given as goal
 
 abbrev pub invariant-loop-i : goal.invariant-loop-i
-invariant-loop-i l = sets l.initial.out 0 (product l.u l.v) ≡ sets l.out l.i (product l.u (drop l.i l.v))
+invariant-loop-i l = sets l.initial.out 0 (product l.pair.first.now l.pair.second.now) ≡ sets l.out l.i (product l.pair.first.now (drop l.i l.pair.second.now))
