@@ -18,7 +18,9 @@ pub(crate) fn is_shortlex(u: &[u8], v: &[u8]) -> bool
     v.cmp(&u).is_lt()
 }
 
-// V1: whether two words show the same: as many lanes, and the same entry in each, whatever the kinds.
+// V1: whether two words show the same: as many lanes, and the same entry in each, whatever the kinds. Inlined, so that
+// the words are not passed through memory.
+#[inline(always)]
 pub(crate) fn show_same(first: Word, second: Word) -> bool
     ensures { result ≡ ((lanes first.entry.group.kind first.entry.group.rank == lanes second.entry.group.kind second.entry.group.rank)
         && same_window (window first.entry.group.kind first.entry.group.rank first.entry.letters.now)

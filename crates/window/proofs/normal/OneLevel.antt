@@ -7,15 +7,13 @@ use mathlib.Core.Path.{◌≡◌, refl, sym, ap, ◌∙◌}
 use mathlib.Core.Bool.{Bool, true, false, not, true≢false}
 use Prim.Native.Nat.{ℕ, suc, ◌+◌, ◌-◌, ◌*◌, ◌/◌, ◌^◌, ◌≤◌, ◌<◌}
 use native.Mathlib.Nat.{lt_of_le_of_lt, pow-suc}
-use native.Mathlib.Decide.{ℕ_discrete}
 use native.Mathlib.Omega.{arith}
 use lib.Count.{ones, ones-le}
 use lib.Pow.{shr_le, ones_split, ones_lt, high}
 use borrow.Author.Tests.{eqb-true, le-leb, lt-leb}
 use Rattle.coxeter.specs.declared.Kind.{Kind}
 use Rattle.coxeter.specs.declared.Kind.TheVariants.{A, B, D}
-use Rattle.coxeter.specs.Kinds.{pick, kind_of}
-use Rattle.coxeter.proofs.KindLaws.{kind_of-one, kind_of_three}
+use Rattle.coxeter.specs.Kinds.{pick}
 use Rattle.coxeter.proofs.PeelingByPlaces.{is_negative, position, Place, last_level, without_position, sign_changed, index_behind, left_at, odd_at, behind_at, index_at}
 
 -- ---- small numbers
@@ -85,9 +83,6 @@ pub last_le : (k : Kind) (m : ℕ) → last_level k m ≤ m
 last_le A m = omega arith
 last_le B m = omega arith
 last_le D m = omega arith
-
-pub last_else : (k m : ℕ) → (k ≡ 2 → ⊥) → m - 1 ≡ last_level (kind_of k) m
-last_else k m f = elim (ℕ_discrete k 1) [ yes e ↦ rw (kind_of-one k e) | no g ↦ rw (kind_of_three k g f) ]
 
 -- m of 64 set digits
 pub ones-shifted : (m : ℕ) → m ≤ 64 → 18446744073709551615 / 2 ^ (64 - m) ≡ 2 ^ m - 1
