@@ -14,6 +14,15 @@ use crate::length::larger_behind;
 use coxeter::{Kind, Window};
 use refusals::{is_negative, size};
 
+// Of which windows a normal form is written: their kind, and how many entries they have. In B and D that is the rank, and in
+// A one more.
+#[derive(Clone, Copy)]
+struct Shape {
+    kind: Kind,
+    entries: usize,
+    ghost ranked: { Ranked kind entries },
+}
+
 // Writes the letters from a up to b from the place `at` on and returns the place after them.
 fn write_up(out: &mut [u8], at: usize, a: usize, b: usize) -> usize
     requires { (b < 256) × (at + length (rise a b) ≤ length out.old) }
@@ -50,12 +59,14 @@ struct Turn {
 }
 
 // The turn of the blocks of B and D. In D the way down starts with n.
-fn turn_of(kind: Kind, n: usize) -> Turn
-    requires { Ranked kind n × (kind ≡ A → ⊥) }
+fn turn_of(shape: Shape) -> Turn
+    requires { shape.kind ≡ A → ⊥ }
     ensures { (result.top < 256) × (result.high < 255)
-        × ((i j : ℕ) → n ≤ j → block kind n i j ≡ rise i result.top ++ fall result.high (2 * n - j)) }
+        × ((i j : ℕ) → shape.entries ≤ j
+        → block shape.kind shape.entries i j ≡ rise i result.top ++ fall result.high (2 * shape.entries - j)) }
 {
-    match kind {
+    let n = shape.entries;
+    match shape.kind {
         Kind::B => Turn {
             top: n,
             high: n - 1,
@@ -68,27 +79,29 @@ fn turn_of(kind: Kind, n: usize) -> Turn
 }
 
 // A block of B or D that turns: both its ways.
-fn write_turned(kind: Kind, n: usize, i: usize, j: usize, out: &mut [u8], at: usize) -> usize
-    requires ranked { Ranked kind n × (kind ≡ A → ⊥) × (n ≤ j) × (j ≤ 2 * n) }
-    requires j_in_bounds { at + length (block kind n i j) ≤ length out.old }
-    ensures { (result ≡ at + length (block kind n i j)) × (out.new ≡ sets out.old at (block kind n i j)) }
+fn write_turned(shape: Shape, i: usize, j: usize, out: &mut [u8], at: usize) -> usize
+    requires turns { (shape.kind ≡ A → ⊥) × (shape.entries ≤ j) × (j ≤ 2 * shape.entries) }
+    requires j_in_bounds { at + length (block shape.kind shape.entries i j) ≤ length out.old }
+    ensures { (result ≡ at + length (block shape.kind shape.entries i j))
+        × (out.new ≡ sets out.old at (block shape.kind shape.entries i j)) }
 {
-    let turn = turn_of(kind, n);
+    let turn = turn_of(shape);
     let next = write_up(out, at, i, turn.top);
-    write_down(out, next, turn.high, 2 * n - j)
+    write_down(out, next, turn.high, 2 * shape.entries - j)
 }
 
 // N4 to N8: writes the block [i,j] from the place `at` on and returns the place after it. Before the turn the block goes
-// up only. The windows have m entries: in B and D that is the rank, and in A every j is below it.
-fn write_block(kind: Kind, m: usize, i: usize, j: usize, out: &mut [u8], at: usize) -> usize
-    requires ranked { Ranked kind m × (j ≤ 2 * m) × (kind ≡ A → j < m) }
-    requires j_in_bounds { at + length (block kind m i j) ≤ length out.old }
-    ensures { (result ≡ at + length (block kind m i j)) × (out.new ≡ sets out.old at (block kind m i j)) }
+// up only, and in A every j is before it.
+fn write_block(shape: Shape, i: usize, j: usize, out: &mut [u8], at: usize) -> usize
+    requires j_within { (j ≤ 2 * shape.entries) × (shape.kind ≡ A → j < shape.entries) }
+    requires j_in_bounds { at + length (block shape.kind shape.entries i j) ≤ length out.old }
+    ensures { (result ≡ at + length (block shape.kind shape.entries i j))
+        × (out.new ≡ sets out.old at (block shape.kind shape.entries i j)) }
 {
-    if j < m {
+    if j < shape.entries {
         return write_up(out, at, i, j);
     }
-    write_turned(kind, m, i, j, out, at)
+    write_turned(shape, i, j, out, at)
 }
 
 // The place of an entry: its position p, and 128 more if it is negative.
@@ -140,13 +153,16 @@ fn has_changed_sign(kind: Kind, behind: usize, odd: bool) -> bool
     }
 }
 
-// N10: the level whose entry stands at `place`, in windows of m entries. The lower entries stand still in front, so the
-// entry is at position m - behind of what is left, and its index is one less, or m + behind if it is negative there.
+// N10: the level whose entry stands at `place`, of m entries. The lower entries stand still in front, so the entry is at
+// position m - behind of what is left, and its index is one less, or m + behind if it is negative there.
 // `behind` counts the positions left from p + 1 on, which are those from p on of the set that is moved down by one.
-fn level_of(kind: Kind, m: usize, place: u8, left: u64, odd: bool) -> Level
-    requires { (m ≤ 64) × (left < 2 ^ m) × Place kind m place }
-    ensures { (result.index ≡ index_at kind m place left odd) × (result.left ≡ left_at place left) × (result.odd ≡ odd_at place odd) }
+fn level_of(shape: Shape, place: u8, left: u64, odd: bool) -> Level
+    requires { (left < 2 ^ shape.entries) × Place shape.kind shape.entries place }
+    ensures { (result.index ≡ index_at shape.kind shape.entries place left odd) × (result.left ≡ left_at place left)
+        × (result.odd ≡ odd_at place odd) }
 {
+    let kind = shape.kind;
+    let m = shape.entries;
     if 128 <= place {
         let p = place - 128;
         let rest = without(left, p);
@@ -180,14 +196,13 @@ fn level_of(kind: Kind, m: usize, place: u8, left: u64, odd: bool) -> Level
     }
 }
 
-// The last level of windows of m entries.
-fn last_level(kind: Kind, m: usize) -> usize
-    requires { 1 ≤ m }
-    ensures { result ≡ last_level kind m }
+// The last level.
+fn last_level(shape: Shape) -> usize
+    ensures { result ≡ last_level shape.kind shape.entries }
 {
-    match kind {
-        Kind::B => m,
-        Kind::A | Kind::D => m - 1,
+    match shape.kind {
+        Kind::B => shape.entries,
+        Kind::A | Kind::D => shape.entries - 1,
     }
 }
 
@@ -195,27 +210,19 @@ fn last_level(kind: Kind, m: usize) -> usize
 // of the levels above, and the block is written behind it. Returns how many letters there are. `left` is the set of
 // the positions left, and `odd` says whether an odd number of negative entries were taken out. The number of levels left
 // falls at each call.
-fn peel(
-    kind: Kind,
-    m: usize,
-    i: usize,
-    places: &[u8; 64],
-    left: u64,
-    odd: bool,
-    out: &mut [u8],
-) -> usize
-    requires ranked { Ranked kind m × (1 ≤ i) × (i ≤ last_level kind m) × (left < 2 ^ m) }
-    requires by_index { (s : ℕ) → s < m → Place kind m (get_or places.now s 0) }
-    requires odd_in_bounds { length (peeled_word kind m places.now i left odd) ≤ length out.old }
-    ensures { (result ≡ length (peeled_word kind m places.now i left odd))
-        × (out.new ≡ sets out.old 0 (peeled_word kind m places.now i left odd)) }
+fn peel(shape: Shape, i: usize, places: &[u8; 64], left: u64, odd: bool, out: &mut [u8]) -> usize
+    requires level_within { (1 ≤ i) × (i ≤ last_level shape.kind shape.entries) × (left < 2 ^ shape.entries) }
+    requires by_index { (s : ℕ) → s < shape.entries → Place shape.kind shape.entries (get_or places.now s 0) }
+    requires odd_in_bounds { length (peeled_word shape.kind shape.entries places.now i left odd) ≤ length out.old }
+    ensures { (result ≡ length (peeled_word shape.kind shape.entries places.now i left odd))
+        × (out.new ≡ sets out.old 0 (peeled_word shape.kind shape.entries places.now i left odd)) }
 {
-    let level = level_of(kind, m, places[i - 1], left, odd);
+    let level = level_of(shape, places[i - 1], left, odd);
     let mut at = 0;
-    if i < last_level(kind, m) {
-        at = peel(kind, m, i + 1, places, level.left, level.odd, out);
+    if i < last_level(shape) {
+        at = peel(shape, i + 1, places, level.left, level.odd, out);
     }
-    write_block(kind, m, i, level.index, out, at)
+    write_block(shape, i, level.index, out, at)
 }
 
 // The set of all positions of m entries.
@@ -232,9 +239,11 @@ pub(crate) fn write_normal_form(window: Window, out: &mut [u8]) -> usize
     ensures { (result ≡ length (normal_form window.entry.group.kind window.entry.group.rank window.entry.entries.now))
         × (out.new ≡ front (normal_form window.entry.group.kind window.entry.group.rank window.entry.entries.now) out.old) }
 {
-    let kind = window.group.kind;
-    let m = window.entries.len();
+    let shape = Shape {
+        kind: window.group.kind,
+        entries: window.entries.len(),
+    };
     let mut places = [0u8; 64];
     set_places(window, &mut places);
-    peel(kind, m, 1, &places, all_positions(m), false, out)
+    peel(shape, 1, &places, all_positions(shape.entries), false, out)
 }

@@ -4,4 +4,4 @@ use Rattle.coxeter.proofs.PeelingByPlaces.{last_level}
 use Rattle.window.proofs.normal.+peel.Given as goal
 
 abbrev pub decreases-peel : goal.decreases-peel
-decreases-peel l = last_level l.kind l.m - l.i
+decreases-peel l = last_level l.shape.kind l.shape.entries - l.i

@@ -8,17 +8,17 @@ use Rattle.window.proofs.normal.level_of.Goals as goal
 pub without-rest-requires : goal.without-rest-requires
 without-rest-requires c =
     let pre = c.requires in
-    position_within pre.0 pre.2 (position-negative _ c.if-place-ge128.true)
+    position_within c.args.shape.ranked.1 pre.1 (position-negative _ c.if-place-ge128.true)
 
 pub larger_behind-behind-requires : goal.larger_behind-behind-requires
 larger_behind-behind-requires c =
     let pre = c.requires in
-    let b = position_within pre.0 pre.2 (position-negative _ c.if-place-ge128.true) in
-    (b.0, b.1, half_fits c.args.m _ pre.1)
+    let b = position_within c.args.shape.ranked.1 pre.1 (position-negative _ c.if-place-ge128.true) in
+    (b.0, b.1, half_fits c.args.shape.entries _ pre.0)
 
 pub overflow_sub-result : goal.overflow_sub-result
 overflow_sub-result c =
-    one_entry _ _ _ c.requires.2
+    one_entry _ _ _ c.requires.1
 
 pub returns-then-has_changed_sign : goal.returns-then-has_changed_sign
 returns-then-has_changed_sign c =
@@ -28,8 +28,8 @@ returns-then-has_changed_sign c =
 pub overflow_add-result : goal.overflow_add-result
 overflow_add-result c =
     let pre = c.requires in
-    let few = behind_le _ _ _ _ (one_entry _ _ _ pre.2) pre.1 c.larger_behind-behind.ensures in
-    record { fits = omega (arith, few, pre.0) }
+    let few = behind_le _ _ _ _ (one_entry _ _ _ pre.1) pre.0 c.larger_behind-behind.ensures in
+    record { fits = omega (arith, few, c.args.shape.ranked.1) }
 
 pub returns-then-place-ge128 : goal.returns-then-place-ge128
 returns-then-place-ge128 c =
@@ -39,13 +39,13 @@ returns-then-place-ge128 c =
 pub without-rest-requires-2 : goal.without-rest-requires-2
 without-rest-requires-2 c =
     let pre = c.requires in
-    position_within pre.0 pre.2 (position_positive _ c.if-place-ge128.false)
+    position_within c.args.shape.ranked.1 pre.1 (position_positive _ c.if-place-ge128.false)
 
 pub larger_behind-behind-requires-2 : goal.larger_behind-behind-requires-2
 larger_behind-behind-requires-2 c =
     let pre = c.requires in
-    let b = position_within pre.0 pre.2 (position_positive _ c.if-place-ge128.false) in
-    (b.0, b.1, half_fits c.args.m _ pre.1)
+    let b = position_within c.args.shape.ranked.1 pre.1 (position_positive _ c.if-place-ge128.false) in
+    (b.0, b.1, half_fits c.args.shape.entries _ pre.0)
 
 pub returns-then-has_changed_sign-2 : goal.returns-then-has_changed_sign-2
 returns-then-has_changed_sign-2 c =
@@ -54,12 +54,12 @@ returns-then-has_changed_sign-2 c =
 
 pub overflow_sub-result-2 : goal.overflow_sub-result-2
 overflow_sub-result-2 c =
-    one_entry _ _ _ c.requires.2
+    one_entry _ _ _ c.requires.1
 
 pub overflow_sub-result-3 : goal.overflow_sub-result-3
 overflow_sub-result-3 c =
     let pre = c.requires in
-    behind_le _ _ _ _ (one_entry _ _ _ pre.2) pre.1 c.larger_behind-behind-2.ensures
+    behind_le _ _ _ _ (one_entry _ _ _ pre.1) pre.0 c.larger_behind-behind-2.ensures
 
 pub returns : goal.returns
 returns c =

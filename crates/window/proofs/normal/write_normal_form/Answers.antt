@@ -11,6 +11,9 @@ all_positions-requires c =
     let rank = first_rank _ _ w.group.in_range w.entries.now w.accepted in
     (one_le w.group.kind _ rank.0, rank.1)
 
+pub invariant_of-shape : goal.invariant_of-shape
+invariant_of-shape c = let w = c.args.window in record { ranked = first_rank _ _ w.group.in_range w.entries.now w.accepted }
+
 pub peel-requires : goal.peel-requires
 peel-requires c =
     let w = c.args.window in
@@ -19,7 +22,7 @@ peel-requires c =
     let places = c.set_places.new.places in
     let s = c.all_positions.ensures in
     record {
-      ranked = (first_rank _ _ h w.entries.now w.accepted, omega arith, first_level _ _ h w.entries.now w.accepted, first_left _ _ s);
+      level_within = (omega arith, first_level _ _ h w.entries.now w.accepted, first_left _ _ s);
       by_index = first_places _ _ h w.entries.now w.accepted places p s;
       odd_in_bounds = first_room _ _ h w.entries.now w.accepted places p s _ c.requires;
     }
