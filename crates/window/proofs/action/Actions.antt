@@ -2,14 +2,14 @@
 --
 -- Sections: the letters of a word; the straight window.
 -- Assumes nothing.
-use mathlib.Core.Path.{◌≡◌, sym, ap, ◌∙◌}
+use mathlib.Core.Path.{◌≡◌}
 use mathlib.Core.List.{List, [], ◌∷◌, ◌++◌, map-append}
 use Prim.Native.Nat.{ℕ, suc, ◌+◌, ◌≤◌, ◌<◌}
 use native.Mathlib.Numerals.{add-one}
 use native.Mathlib.Omega.{arith}
 use lib.IntN.{ℤ, pos}
 use lib.ListN.{length, get_or, take, drop, set, drop_of_length-le}
-use lib.Seq.{take-suc-set, take_all}
+use lib.Seq.{take-suc-set}
 use mir.Syntax.{w8}
 use mir.Val.{to_z}
 use Rattle.coxeter.specs.declared.Kind.{Kind}
@@ -46,9 +46,6 @@ pub take-identity_next : (i : ℕ) (w : List ℤ) → i < length w → length w 
     → take (i + 1) (set w i (to_z w8 (i + 1))) ≡ identity (i + 1)
 take-identity_next i w h l t =
     rw (cast_back (i + 1) (omega arith), identity_next i, ← t) (rw (add-one i) (take-suc-set w i (pos (suc i)) h))
-
-pub take-identity_end : (i : ℕ) {m : ℕ} {w : List ℤ} → length w ≤ i → i ≤ length w → length w ≡ m → take i w ≡ identity i → w ≡ identity m
-take-identity_end i {w} h l e t = sym (take_all i w h) ∙ t ∙ ap identity (omega arith)
 
 -- here m is the length of the slice that the straight window goes to
 pub le_of_lanes : (k : Kind) (n m : ℕ) → n ≤ 64 → m ≡ lanes k n → m ≤ 127

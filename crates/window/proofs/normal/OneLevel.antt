@@ -25,14 +25,8 @@ position-negative place l = rw (le-leb 128 place l)
 pub position_positive : (place : ℕ) → place < 128 → position place ≡ place
 position_positive place l = rw (lt-leb 128 place l)
 
-pub position_within : {k : Kind} {m place p : ℕ} → m ≤ 64 → Place k m place → position place ≡ p → (1 ≤ p) × (p ≤ 64)
-position_within l h e = (omega (arith, h.first), omega (arith, h.last))
-
 pub one_entry : (k : Kind) (m place : ℕ) → Place k m place → 1 ≤ m
 one_entry k m place h = omega (arith, h.first, h.last)
-
-pub half_fits : (m left : ℕ) → left < 2 ^ m → left / 2 < 2 ^ m
-half_fits m left l = omega arith
 
 -- fewer positions than m are behind one of m
 pub behind_le : (m left p l : ℕ) → 1 ≤ m → left < 2 ^ m → l ≡ ones (left / 2 / 2 ^ (p - 1)) → l ≤ m - 1

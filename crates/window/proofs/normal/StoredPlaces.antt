@@ -17,7 +17,7 @@ use borrow.Author.Tests.{eqb-false}
 use Rattle.coxeter.specs.declared.Kind.{Kind}
 use Rattle.coxeter.specs.Checks.{has_size, WindowOf}
 use Rattle.coxeter.proofs.Levels.{Distinct, accepted_of_refusal}
-use Rattle.coxeter.proofs.PeelingByPlaces.{place_of, PlacesOf}
+use Rattle.coxeter.proofs.PeelingByPlaces.{place_of}
 use Rattle.coxeter.proofs.Sizes.{has_size-head, has_size-tail}
 use Rattle.refusals.proofs.Bytes.{held, element_back}
 use Rattle.window.proofs.product.Entries.{entry_bounds}
@@ -65,6 +65,3 @@ stored_next k n {w} {places} {i} {s} {r} g few l f q e h =
         let apart = sizes_apart w p i (accepted_of_refusal k n w g).level.distinct a l in
         let other : nat_abs (get_or w p (pos 0)) - 1 ≡ s - 1 → ⊥ = λ x. apart (omega (arith, q, sizes i l, sizes p (omega arith))) in
         get_or-set_other places (s - 1) (nat_abs (get_or w p (pos 0)) - 1) r 0 other ∙ h.so_far p a
-
-pub stored_all : {w : List ℤ} {places : List ℕ} {i : ℕ} → length w ≤ i → PlacesStored w places i → PlacesOf w places
-stored_all l h p a = h.so_far p (omega arith)

@@ -3,8 +3,6 @@
 -- Assumes nothing.
 use mathlib.Core.Path.{◌∙◌}
 use native.Mathlib.Omega.{arith}
-use borrow.Author.Rules.{rules}
-use Rattle.refusals.proofs.Bytes.{element_back}
 use Rattle.window.proofs.ByteSteps.{step_of, place_lt_of_step, swap_is_act, negate_at_asks, held_is_last, negate_first_is_act}
 use Rattle.window.proofs.ByteSteps.{four_le, swap_negate_at_asks, held_is_last_of_D, swap_negate_is_act}
 use Rattle.window.proofs.KindCases.{not-B}
@@ -12,9 +10,6 @@ use Rattle.window.proofs.action.act_on.Goals as goal
 
 pub slice_copy_out-a : goal.slice_copy_out-a
 slice_copy_out-a c = place_lt_of_step _ _ _ _ (step_of c.args.group _ c.requires.le_s c.requires.window_of)
-
-pub swap_at-requires : goal.swap_at-requires
-swap_at-requires c = record { p_in_bounds = search rules; a_value = element_back _ c.a-1.given }
 
 pub returns-then-s-w : goal.returns-then-s-w
 returns-then-s-w c =

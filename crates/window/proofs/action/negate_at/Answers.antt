@@ -1,11 +1,7 @@
 -- `action::negate_at` changes the sign of an entry: one store of its negation, which fits since the size is below 128.
 -- Assumes nothing.
-use Rattle.refusals.proofs.Bytes.{element_back}
 use Rattle.window.proofs.ByteSteps.{set_eq_negate_first}
 use Rattle.window.proofs.action.negate_at.Goals as goal
-
-pub negated-requires : goal.negated-requires
-negated-requires c = rw (element_back _ c.ranges.a.sfits, c.requires.a_value) c.requires.p_in_bounds.1
 
 pub returns : goal.returns
 returns c =

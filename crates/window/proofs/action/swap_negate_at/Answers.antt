@@ -1,11 +1,7 @@
 -- `action::swap_negate_at` swaps two neighbours with their signs changed: two stores of the negations.
 -- Assumes nothing.
-use Rattle.refusals.proofs.Bytes.{element_back}
 use Rattle.window.proofs.ByteSteps.{set_eq_swap_negate}
 use Rattle.window.proofs.action.swap_negate_at.Goals as goal
-
-pub negated-d-requires : goal.negated-d-requires
-negated-d-requires c = rw (element_back _ c.ranges.b.sfits, c.requires.b_value) c.requires.pos_bound_2
 
 pub returns : goal.returns
 returns c =

@@ -2,12 +2,9 @@
 -- Assumes nothing.
 use mathlib.Core.Path.{◌≡◌, sym, ap, ◌∙◌}
 use Rattle.coxeter.specs.Length.{negative}
-use Rattle.refusals.proofs.Bytes.{element_back, cast_back, minus_cast_fits, minus_cast_back}
+use Rattle.refusals.proofs.Bytes.{element_back, cast_back, minus_cast_back}
 use Rattle.window.proofs.product.Entries.{signed_minus, signed_plus}
 use Rattle.window.proofs.entries.with_sign.Goals as goal
-
-pub overflow_sub-result : goal.overflow_sub-result
-overflow_sub-result c = minus_cast_fits _ c.requires
 
 pub returns-then-is_negative : goal.returns-then-is_negative
 returns-then-is_negative c =

@@ -28,9 +28,6 @@ own w = refusal-B _ _ _ w.accepted
 pub overflow_mul-pairs : goal.overflow_mul-pairs
 overflow_mul-pairs c = record { fits = omega (arith, (square_fits _ (few c.args.window)).0) }
 
-pub overflow_sub-pairs : goal.overflow_sub-pairs
-overflow_sub-pairs c = (square_fits _ (few c.args.window)).1
-
 pub loop-e-init : goal.loop-e-init
 loop-e-init c =
     rw (c.into_iter-e-iterator.ensures.into_iter_gives, c.rev-e-items.ensures.source, c.iter.ensures.rest)

@@ -8,12 +8,9 @@ use Rattle.refusals.proofs.Bytes.{element_back}
 use Rattle.coxeter.proofs.Groups.{group_lanes_le}
 use Rattle.window.proofs.length.Sums.{length_le_of_lanes}
 use Rattle.window.proofs.product.Entries.{entry_bounds}
-use Rattle.window.proofs.normal.StoredPlaces.{stored_none, stored_next, stored_all}
+use Rattle.window.proofs.normal.StoredPlaces.{stored_next}
 use Rattle.window.proofs.normal.set_places.Goals as goal
 use Rattle.window.proofs.normal.set_places.Goals.{After-size}
-
-pub loop-i-init : goal.loop-i-init
-loop-i-init c = stored_none (omega arith)
 
 -- the size that was computed is the entry's
 size_is : (c : After-size) → c.size.result ≡ nat_abs (get_or c.args.window.entries.now c.loop-i.i (pos 0))
@@ -44,6 +41,3 @@ pub loop-i-preserved : goal.loop-i-preserved
 loop-i-preserved c =
     let k = c.before.before.before in
     stored_next _ _ c.args.window.accepted (at_most_64 k) c.loop-i-test.true (omega arith) (size_is k) c.place_of.ensures c.loop-i.invariant
-
-pub returns : goal.returns
-returns c = stored_all c.loop-i-test.false c.loop-i.invariant

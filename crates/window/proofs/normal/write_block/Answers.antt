@@ -1,7 +1,6 @@
 -- `normal::write_block` stores a block that goes up only as one run, and leaves one that turns to `write_turned`.
 -- Assumes nothing.
 use mathlib.Core.Path.{◌≡◌, sym, ◌∙◌}
-use native.Mathlib.Omega.{arith}
 use borrow.Author.Rules.{rules}
 use Rattle.coxeter.specs.NormalForm.{rise, block}
 use Rattle.coxeter.proofs.LetterRuns.{rise-span, block_up}
@@ -20,12 +19,3 @@ returns-then-j-shape c =
     block a.shape.kind a.shape.entries a.i a.j ≡ rise a.i a.j =
     block_up _ _ _ _ c.if-j-shape.true ∙ sym (rise-span _ _) in
     rw (identity) c.write_up.ensures
-
-pub write_turned-requires : goal.write_turned-requires
-write_turned-requires c =
-    let high = c.if-j-shape.false in
-    let pre = c.requires in
-    record { turns = ((λ e. omega (arith, pre.j_within.1 e)), high, pre.j_within.0); j_in_bounds = pre.j_in_bounds }
-
-pub returns : goal.returns
-returns c = c.write_turned.ensures

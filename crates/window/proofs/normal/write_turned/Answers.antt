@@ -3,32 +3,9 @@
 use mathlib.Core.Path.{◌≡◌}
 use mathlib.Core.List.{◌++◌}
 use Prim.Native.Nat.{◌-◌, ◌*◌}
-use borrow.Author.Rules.{rules}
 use Rattle.coxeter.specs.NormalForm.{rise, fall, block}
-use Rattle.coxeter.proofs.Lists.{room_left, room_right, stored_append}
+use Rattle.coxeter.proofs.Lists.{stored_append}
 use Rattle.window.proofs.normal.write_turned.Goals as goal
-
-pub turn_of-turn-requires : goal.turn_of-turn-requires
-turn_of-turn-requires c = c.requires.turns.0
-
-pub write_up-next-requires : goal.write_up-next-requires
-write_up-next-requires c =
-    -- the block's two runs
-    let runs : let a = c.args in
-    let turn = c.turn_of-turn.result in
-    block a.shape.kind a.shape.entries a.i a.j ≡ rise a.i turn.top ++ fall turn.high (2 * a.shape.entries - a.j) =
-    c.turn_of-turn.ensures.2 _ _ c.requires.turns.1 in
-    (c.turn_of-turn.ensures.0, room_left _ (rise _ _) (fall _ _) _ (rw (runs) at c.requires.j_in_bounds))
-
-pub write_down-requires : goal.write_down-requires
-write_down-requires c =
-    -- the block's two runs
-    let runs : let a = c.args in
-    let turn = c.turn_of-turn.result in
-    block a.shape.kind a.shape.entries a.i a.j ≡ rise a.i turn.top ++ fall turn.high (2 * a.shape.entries - a.j) =
-    c.turn_of-turn.ensures.2 _ _ c.requires.turns.1 in
-    let room = rw (runs) at c.requires.j_in_bounds in
-    (c.turn_of-turn.ensures.1, search rules, room_right _ (rise _ _) (fall _ _) _ _ _ room c.write_up-next.ensures.0 c.write_up-next.auto.out)
 
 pub returns : goal.returns
 returns c =
