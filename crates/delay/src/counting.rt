@@ -20,11 +20,7 @@ fn set_one(kind: u8, counts: &mut [u64])
     requires { 1 ≤ length counts.old }
     ensures { counts.new ≡ values (product (kind_of kind) 0) (length counts.old) }
 {
-    let mut l = 0;
-    while l < counts.len() {
-        counts[l] = 0;
-        l += 1;
-    }
+    counts.fill(0);
     counts[0] = 1;
 }
 
@@ -34,11 +30,9 @@ fn sum_up(counts: &mut [u64])
     ensures { counts.new ≡ values (sum_to (value_at counts.old)) (length counts.old) }
 {
     let mut sum: u64 = 0;
-    let mut l = 0;
-    while l < counts.len() {
-        sum += counts[l];
-        counts[l] = sum;
-        l += 1;
+    for x in counts.iter_mut() {
+        sum += *x;
+        *x = sum;
     }
 }
 
@@ -59,9 +53,7 @@ fn combine_shifted(counts: &mut [u64], b: usize, how: Combination)
     requires with_shifted_fit { WithShiftedFit how b (value_at counts.old) (length counts.old) }
     ensures { counts.new ≡ values (with_shifted how b (value_at counts.old)) (length counts.old) }
 {
-    let mut l = counts.len();
-    while b < l {
-        l -= 1;
+    for l in (b..counts.len()).rev() {
         counts[l] = combine(counts[l], counts[l - b], how);
     }
 }
@@ -103,11 +95,9 @@ fn count(kind: u8, rank: u8, m: usize, counts: &mut [u64])
 {
     set_one(kind, counts);
     let mut d: usize = 1;
-    let mut c = fewest_of(kind);
-    while c < m {
+    for c in fewest_of(kind)..m {
         d += top_of(kind, c);
         multiply(kind, c, &mut counts[..d]);
-        c += 1;
     }
 }
 

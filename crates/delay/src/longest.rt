@@ -38,10 +38,9 @@ fn set_longest(kind: u8, n: usize, w: &mut [i8])
     requires w_len { length w.old ≡ lanes (kind_of kind) n }
     ensures { w.new ≡ longest (kind_of kind) n }
 {
-    let mut i = 0;
-    while i < w.len() {
-        w[i] = longest_entry(kind, n, w.len(), i);
-        i += 1;
+    let m = w.len();
+    for (i, x) in w.iter_mut().enumerate() {
+        *x = longest_entry(kind, n, m, i);
     }
 }
 
