@@ -1,14 +1,13 @@
 // From one window to another over allowed steps, with no search: the normal form of the window between the two has
 // an allowed letter at every place exactly when some word over the allowed steps leads there, and is then the least
 // of those words.
-ghost use Rattle.std.specs.Prelude.{◌≡◌, not, ◌*◌, ◌≤◌, length};
+ghost use Rattle.std.specs.Prelude.{◌≡◌, not, ◌*◌, ◌≤◌};
 ghost use Rattle.coxeter.specs.Checks.{check, WordOf};
 ghost use Rattle.coxeter.specs.Calls.{Yields, writes};
 ghost use Rattle.shortest_words.specs.Allowed.{over, allows, set_refusal};
 ghost use Rattle.shortest_words.specs.BetweenCalls.{between_windows};
 
 use crate::allowed::{is_allowed, set_refusal};
-use crate::work::{letters_64, letters_256, letters_4096};
 use window::{Answer, normal_form_between};
 
 // Whether every letter of a word of steps is allowed.
@@ -16,14 +15,7 @@ fn are_allowed(allowed: u64, word: &[u8]) -> bool
     requires { WordOf 64 word.now }
     ensures { result ≡ over (allows allowed) word.now }
 {
-    let mut i = 0;
-    while i < word.len() {
-        if !is_allowed(allowed, word[i] as usize) {
-            return false;
-        }
-        i += 1;
-    }
-    true
+    word.iter().all(|s| is_allowed(allowed, *s as usize))
 }
 
 // Writes a word of steps to the front of `out`, or refuses with 19 where a letter is not allowed, then 14.
@@ -43,25 +35,27 @@ fn write_allowed(allowed: u64, word: &[u8], out: &mut [u8]) -> Answer
     Answer::Length(l)
 }
 
-// The call after checks 5, 6 and 16. The normal form of the window between the two is first written to `form`, which
-// has room for it. The windows are lent on as parts of full length, so that their pointers and lengths are stored anew
-// and not copied in pairs that were just stored.
-fn write_between(
+// The call after checks 5, 6 and 16. The normal form of the window between the two is first written to a work array
+// of N letters, which has room for it; the fewer they are, the less time it takes to make. The windows are lent on as
+// parts of full length, so that their pointers and lengths are stored anew and not copied in pairs that were just
+// stored.
+fn write_between<const N: usize>(
     kind: u8,
     rank: u8,
     allowed: u64,
     from: &[i8],
     to: &[i8],
-    form: &mut [u8],
     out: &mut [u8],
 ) -> Answer
     requires allowed_value { set_refusal kind rank allowed ≡ 0 }
-    requires rank_in_bounds { rank * rank ≤ length form.old }
+    requires rank_in_bounds { rank * rank ≤ N }
+    requires n_bound { N ≤ 4096 }
     ensures { Yields (between_windows kind rank allowed from.now to.now out.old) result out.new }
 {
+    let mut form = [0u8; N];
     let a = from.len();
     let b = to.len();
-    let answer = normal_form_between(kind, rank, &from[..a], &to[..b], form);
+    let answer = normal_form_between(kind, rank, &from[..a], &to[..b], &mut form);
     let Answer::Length(l) = answer else {
         return answer;
     };
@@ -85,14 +79,9 @@ pub fn between_windows(
     if refusal != 0 {
         return Answer::Refused(refusal);
     }
-    if rank <= 8 {
-        let mut form = letters_64();
-        return write_between(kind, rank, allowed, from, to, &mut form, out);
+    match rank {
+        0..=8 => write_between::<64>(kind, rank, allowed, from, to, out),
+        9..=16 => write_between::<256>(kind, rank, allowed, from, to, out),
+        _ => write_between::<4096>(kind, rank, allowed, from, to, out),
     }
-    if rank <= 16 {
-        let mut form = letters_256();
-        return write_between(kind, rank, allowed, from, to, &mut form, out);
-    }
-    let mut form = letters_4096();
-    write_between(kind, rank, allowed, from, to, &mut form, out)
 }

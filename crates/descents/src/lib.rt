@@ -30,7 +30,7 @@ pub use shortest_words::{Fallback, Split};
 use splitting::split_accepted;
 use walk::decide;
 pub use window::Answer;
-use work::{entries_64, letters_4096, show, write_form};
+use work::{show, write_form};
 
 // The verdict on two accepted words of one kind and rank, by the normal form of the first and the window of the second.
 fn decide_words(kind: u8, rank: u8, present: &[u8], simpler: &[u8], places: &mut [u16]) -> Fallback
@@ -40,9 +40,9 @@ fn decide_words(kind: u8, rank: u8, present: &[u8], simpler: &[u8], places: &mut
     ensures { Decided (kind_of kind) rank (word_normal_form (kind_of kind) rank present.now)
         (window (kind_of kind) rank simpler.now) places.old result places.new }
 {
-    let mut target = entries_64();
+    let mut target = [0i8; 64];
     let m = show(kind, rank, simpler, &mut target);
-    let mut form = letters_4096();
+    let mut form = [0u8; 4096];
     let l = write_form(kind, rank, present, &mut form);
     decide(kind, rank, &mut form[..l], &mut target[..m], places)
 }

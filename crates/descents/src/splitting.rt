@@ -11,7 +11,7 @@ ghost use Rattle.shortest_words.specs.Split.{first_word, second_word};
 ghost use Rattle.shortest_words.specs.SplitCalls.{split_outcome, SplitYields};
 
 use crate::stripping::strip;
-use crate::work::{entries_64, invert, measure, show};
+use crate::work::{invert, measure, show};
 use shortest_words::Split;
 use window::{Answer, normal_form_of_inverse, normal_form_of_product};
 
@@ -88,7 +88,7 @@ fn split_window(
         result first.new second.new }
 {
     let m = w.len();
-    let mut rest = entries_64();
+    let mut rest = [0i8; 64];
     invert(kind, rank, w, &mut rest);
     strip(kind, rank as usize, allowed, &mut rest[..m]);
     write_parts(kind, rank, w, &rest[..m], first, second)
@@ -108,7 +108,7 @@ pub(crate) fn split_accepted(
         (second_word (allows allowed) (kind_of kind) rank (window (kind_of kind) rank word.now))
         first.old second.old) result first.new second.new }
 {
-    let mut w = entries_64();
+    let mut w = [0i8; 64];
     let m = show(kind, rank, word, &mut w);
     split_window(kind, rank, allowed, &w[..m], first, second)
 }

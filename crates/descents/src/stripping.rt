@@ -53,6 +53,7 @@ pub(crate) fn strip(kind: u8, n: usize, allowed: u64, w: &mut [i8])
     ensures { Strips (allows allowed) (kind_of kind) n w.old w.new }
 {
     let mut s = 1;
+    // A `while`, since s also goes back, which the counter of a `for` cannot.
     while s <= n {
         if take_allowed_descent(kind, n, allowed, s, w) {
             s = back(kind, n, s);

@@ -22,9 +22,7 @@ fn keep_letters(kind: u8, n: usize, word: &mut [u8], w: &mut [i8]) -> usize
         × (w.new ≡ left_over (kind_of kind) n word.old (length word.old) w.old) }
 {
     let mut kept: usize = 0;
-    let mut i = word.len();
-    while 0 < i {
-        i -= 1;
+    for i in (0..word.len()).rev() {
         if take_descent(kind, n, word[i] as usize, w) {
             kept += 1;
         } else {
@@ -38,12 +36,10 @@ fn is_identity(w: &[i8]) -> bool
     requires { length w.now ≤ 127 }
     ensures { result ≡ same_window w.now (identity (length w.now)) }
 {
-    let mut i = 0;
-    while i < w.len() {
-        if w[i] != (i + 1) as i8 {
+    for (i, x) in w.iter().enumerate() {
+        if *x != (i + 1) as i8 {
             return false;
         }
-        i += 1;
     }
     true
 }
@@ -55,13 +51,11 @@ fn write_places(word: &[u8], places: &mut [u16])
     ensures { places.new ≡ front (marked 0 word.now) places.old }
 {
     let mut at = 0;
-    let mut i = 0;
-    while i < word.len() {
-        if word[i] != 0 {
+    for (i, s) in word.iter().enumerate() {
+        if *s != 0 {
             places[at] = i as u16;
             at += 1;
         }
-        i += 1;
     }
 }
 

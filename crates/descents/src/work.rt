@@ -1,5 +1,4 @@
-// Work arrays, with what the window layer writes to them: each has room for every answer, so that no call below is
-// refused.
+// What the window layer writes to work arrays: each has room for every answer, so that no call below is refused.
 ghost use Rattle.std.specs.Prelude.{◌≡◌, length};
 ghost use Rattle.coxeter.specs.Kinds.{kind_of};
 ghost use Rattle.coxeter.specs.Windows.{window, inverse};
@@ -9,33 +8,6 @@ ghost use Rattle.coxeter.specs.NormalForm.{word_normal_form};
 ghost use Rattle.coxeter.proofs.Fronts.{AtFront};
 
 use window::{Answer, inverse_of_window, length_of_window, normal_form_of_word, window_of_word};
-
-// A word with room for every normal form.
-pub(crate) fn letters_4096() -> [u8; 4096]
-    ensures { 4096 ≡ length result }
-{
-    [0u8; 4096]
-}
-
-// One with room for every normal form of rank 8 or less, and one for rank 16 or less: they take less time to make.
-pub(crate) fn letters_64() -> [u8; 64]
-    ensures { 64 ≡ length result }
-{
-    [0u8; 64]
-}
-
-pub(crate) fn letters_256() -> [u8; 256]
-    ensures { 256 ≡ length result }
-{
-    [0u8; 256]
-}
-
-// A window with room for every lane count.
-pub(crate) fn entries_64() -> [i8; 64]
-    ensures { 64 ≡ length result }
-{
-    [0i8; 64]
-}
 
 // The window of an accepted word, at the front of `work`. Returns its length.
 pub(crate) fn show(kind: u8, rank: u8, word: &[u8], work: &mut [i8]) -> usize

@@ -4,16 +4,17 @@
 -- Sections: letters; the window between two windows and its normal form; the call.
 -- Assumes nothing.
 use mathlib.Core.Path.{◌≡◌, refl, sym, ap, ◌∙◌}
-use mathlib.Core.Bool.{Bool, true, false, not}
+use mathlib.Core.Bool.{Bool, true, false, not, ◌&&◌}
 use mathlib.Core.List.{List, [], ◌∷◌, ◌++◌}
-use Prim.Native.Nat.{ℕ, ◌+◌, ◌*◌, ◌≤◌, ◌<◌}
-use native.Mathlib.Nat.{mul-le-mul}
+use Prim.Native.Nat.{ℕ, ◌*◌, ◌≤◌, ◌<◌}
 use native.Mathlib.Decide.{ℕ_discrete}
 use native.Mathlib.Omega.{arith}
 use lib.IntN.{ℤ}
-use lib.ListN.{length, get_or, take, drop, drop_of_length-le}
-use lib.Seq.{take-length, length-take-le}
-use borrow.Author.Tests.{ne_eqb, le-ltb, not-true, not-false}
+use lib.ListN.{length, get_or, take, drop, replicate, length-replicate}
+use lib.Seq.{take-length}
+use borrow.Author.Tests.{ne_eqb, le-ltb}
+use Rattle.std.specs.List.{list_all}
+use Rattle.std.proofs.lemmas.Grind.{get_or_default_zero}
 use Rattle.coxeter.specs.declared.Answer.{Answer}
 use Rattle.coxeter.specs.declared.Answer.TheVariants as answer
 use Rattle.coxeter.specs.Kinds.{kind_of}
@@ -23,8 +24,7 @@ use Rattle.coxeter.specs.NormalForm.{normal_form}
 use Rattle.coxeter.specs.Calls.{front, Yields, writes}
 use Rattle.coxeter.proofs.Acceptance.{rank_accepted, letters_accepted, length_accepted, windows_accepted}
 use Rattle.coxeter.proofs.Levels.{Accepted, accepted_of_refusal, refusal_of_accepted}
-use Rattle.coxeter.proofs.Lists.{drop_next}
-use Rattle.coxeter.proofs.LetterLaws.{letter_within_cons}
+use Rattle.coxeter.proofs.LetterLaws.{letter_at, letter_within_cons}
 use Rattle.coxeter.proofs.Theorems.{normal_form-fits}
 use Rattle.coxeter.proofs.Refusals.{then_none, then_some, then_assoc}
 use Rattle.coxeter.proofs.Outcomes.{writes-refused}
@@ -40,20 +40,16 @@ use Rattle.window.proofs.Squares.{form_le_square}
 
 -- ---- letters
 
-module _ (allowed : ℕ → Bool) (u : List ℕ) (i : ℕ) (s : over allowed u ≡ over allowed (drop i u)) where
-  -- t is whether the letter at i is allowed
-  module _ (t : Bool) (h : i < length u) (e : t ≡ allowed (get_or u i 0)) where
-    pub over_stop : not t ≡ true → false ≡ over allowed u
-    unfolding over
-    over_stop f = sym (s ∙ rw (drop_next u i 0 h, ← e, not-true t f))
+-- each letter is allowed
+pub list_all-over : (allowed : ℕ → Bool) (u : List ℕ) → list_all allowed u ≡ over allowed u
+unfolding over
+list_all-over allowed [] = refl
+list_all-over allowed (s ∷ u) = ap (λ (b : Bool). allowed s && b) (list_all-over allowed u)
 
-    pub over_next : not t ≡ false → over allowed u ≡ over allowed (drop (i + 1) u)
-    unfolding over
-    over_next f = s ∙ rw (drop_next u i 0 h, ← e, not-false t f)
-
-  pub over_end : length u ≤ i → true ≡ over allowed u
-  unfolding over
-  over_end h = sym (s ∙ rw (drop_of_length-le u h))
+-- a letter that is met in an accepted word
+pub letter_met : (n : ℕ) (u : List ℕ) (k x : ℕ) → WordOf n u → k < length u → x ≡ get_or u k x → (1 ≤ x) × (x ≤ n)
+letter_met n u k x w h e =
+    let is : x ≡ get_or u k 0 = e ∙ get_or_default_zero u k x h in rw is (letter_at n u k h (letters_accepted n u w))
 
 -- a word of a smaller rank is one of a greater one
 letters_le : (n m : ℕ) (u : List ℕ) → n ≤ m → wrong_letter n u ≡ false → wrong_letter m u ≡ false
@@ -79,13 +75,6 @@ pub copied : (u out after : List ℕ) → after ≡ take (length u) u ++ drop (l
 copied u out after e = e ∙ front_parts u out (length u) (take (length u) u) refl (take-length u)
 
 -- ---- the window between two windows and its normal form
-
--- what there is room for up to rank 8, 16 and 64
-pub square_le_64 : (n : ℕ) → n ≤ 8 → n * n ≤ 64
-square_le_64 n h = mul-le-mul {n₁ = n} {m₁ = n} {n₂ = 8} {m₂ = 8} h h
-
-pub square_le_256 : (n : ℕ) → n ≤ 16 → n * n ≤ 256
-square_le_256 n h = mul-le-mul {n₁ = n} {m₁ = n} {n₂ = 16} {m₂ = 16} h h
 
 -- ---- the call
 
@@ -118,17 +107,26 @@ module _ (k n set : ℕ) (v w : List ℤ) (z : set_refusal k n set ≡ 0) where
       let p = windows_accepted k n v w checks refl c in
       between_accepted (kind_of k) n v w (accepted_of_refusal (kind_of k) n v p.1.0) (accepted_of_refusal (kind_of k) n w p.1.1)
 
-  -- y is what the call on the two windows answered, with room in `before` for every normal form, and `after` what it
-  -- left there
-  module _ (before after : List ℕ) (y : Answer) (room : n * n ≤ length before)
-      (e : Yields (writes (rank_refusal k n then window_refusal (kind_of k) n v then window_refusal (kind_of k) n w)
-      (normal_form (kind_of k) n (product (inverse v) w)) before) y after) where
+  -- y is what the call on the two windows answered, with `size` zeros that have room for every normal form, and `after`
+  -- what it left there; the windows were lent as parts of full length
+  module _ (size : ℕ) (after : List ℕ) (y : Answer) (room : n * n ≤ size)
+      (lent : Yields (writes (rank_refusal k n then window_refusal (kind_of k) n (take (length v) v) then window_refusal (kind_of k) n (take (length w) w))
+      (normal_form (kind_of k) n (product (inverse (take (length v) v)) (take (length w) w))) (replicate size 0)) y after) where
+    abbrev before : List ℕ
+    before = replicate size 0
+
+    e : Yields (writes checks form before) y after
+    e = rw (take-length v, take-length w) at lent
+
+    zeros : length before ≡ size
+    zeros = let z : ℕ = 0 in length-replicate size z
+
     pub refused_by_windows : (s : ℕ) (out : List ℕ) → y ≡ answer.Refused s → Yields (between_windows k n set v w out) y out
     unfolding between_windows
     refused_by_windows s out q = elim (ℕ_discrete checks 0) [ yes c ↦ absurd (never c) | no f ↦ refused f ]
       where
         never : checks ≡ 0 → ⊥
-        never c = omega (arith, (told_refused checks form before after y c e s q).0, form_le_square (kind_of k) n (product (inverse v) w) (middle c), room)
+        never c = omega (arith, (told_refused checks form before after y c e s q).0, form_le_square (kind_of k) n (product (inverse v) w) (middle c), room, zeros)
 
         refused : (checks ≡ 0 → ⊥) → Yields (between_windows k n set v w out) y out
         refused f =
@@ -151,11 +149,8 @@ module _ (k n set : ℕ) (v w : List ℤ) (z : set_refusal k n set ≡ 0) where
       stored : (length after ≡ length before) × (take m after ≡ form)
       stored = length-take-front m form before after (sym held.0) held.1 held.2
 
-      pub form_room : m ≤ length after
-      form_room = omega (arith, held.1, stored.0)
-
-      pub form_length : m ≡ length (take m after)
-      form_length = sym (length-take-le m after form_room)
+      pub form_room : m ≤ size
+      form_room = omega (arith, held.1, zeros)
 
       pub form_word : WordOf 64 (take m after)
       form_word =

@@ -1,12 +1,12 @@
 -- `decide_words` walks through the normal form of the present word towards the simpler window.
 -- Assumes nothing.
-use mathlib.Core.Path.{refl, sym, ◌∙◌}
+use mathlib.Core.Path.{refl, sym}
 use Rattle.descents.proofs.Fallbacks.{part_length, part_is, words_decide_requires, words_decided}
 use Rattle.descents.proofs.decide_words.Goals as goal
 
 pub slice_bounds-decide-end : goal.slice_bounds-decide-end
 slice_bounds-decide-end c =
-    part_length _ _ _ _ _ c.write_form-l.ensures refl (c.letters_4096-form.ensures ∙ sym c.write_form-l.auto.form)
+    part_length _ _ _ _ _ c.write_form-l.ensures refl (sym c.write_form-l.auto.form)
 
 pub slice_bounds-decide-end-2 : goal.slice_bounds-decide-end-2
 slice_bounds-decide-end-2 c =
