@@ -17,7 +17,7 @@ use Rattle.distribution.proofs.Sums.{below, below_same}
 use Rattle.distribution.proofs.Factors.{factor, factor_same}
 use Rattle.distribution.proofs.Products.{fewest, product, lanes-levels, top, degree, degree_le}
 use Rattle.distribution.proofs.Products.{degree-greatest, product_beyond, of_length-product, below-product-fits, product-fits}
-use Rattle.distribution.proofs.Outcomes.{table_accepted}
+use Rattle.distribution.proofs.Outcomes.{table_accepted, table_rank}
 use Rattle.distribution.proofs.Values.{values, value_at, Fit, length-values, value_at-values, values_same, take-values, values-front}
 
 -- ---- before a turn
@@ -47,6 +47,10 @@ pub record Turn (k : Kind) (n : ℕ) (counts : List ℕ) (d c e : ℕ) : Type 0 
   pub counted : Counted k n counts d c
   pub lower : c < lanes k n
   pub tops : e ≡ top k c
+
+pub turn_of : (k n m : ℕ) {counts : List ℕ} {d c e : ℕ} → table_refusal k n ≡ 0 → m ≡ lanes (kind_of k) n → Counted (kind_of k) n counts d c → c < m
+    → e ≡ top (kind_of k) c → Turn (kind_of k) n counts d c e
+turn_of k n m r l h o t = record { rank = table_rank k n r; counted = h; lower = rw l at o; tops = t }
 
 -- m lanes have at most 64 sizes
 pub sizes_le : (k n m c : ℕ) → table_refusal k n ≡ 0 → m ≡ lanes (kind_of k) n → c < m → c ≤ 64

@@ -23,9 +23,8 @@ returns-then-letters-l c =
     let pre = c.requires in
     letters-short _ _ _ _ _ refl pre.rank_value c.greatest_length-l.ensures pre.m_value (omega arith) c.if-entries-m.false c.if-letters-l.true
 
-pub write_longest-requires : goal.write_longest-requires
-write_longest-requires c =
-    record { rank_of = table_accepted _ _ c.requires.rank_value; m_value = c.requires.m_value; m_in_bounds = c.if-entries-m.false }
+pub write_longest-requires-clause-rank_of : goal.write_longest-requires-clause-rank_of
+write_longest-requires-clause-rank_of c = table_accepted _ _ c.requires.rank_value
 
 pub write_form-requires : goal.write_form-requires
 write_form-requires c = let pre = c.requires in

@@ -1,10 +1,6 @@
 -- What `search` leaves open of the proof of `counting::combine_shifted`.
-use Rattle.delay.proofs.counting.Filling.{filled_none_back}
 use Rattle.delay.proofs.counting.Loops.{combined-fits, combined_filled, combined_end}
 use Rattle.delay.proofs.counting.combine_shifted.Goals as goal
-
-pub loop-l-init : goal.loop-l-init
-loop-l-init c = filled_none_back
 
 pub combine-requires : goal.combine-requires
 combine-requires c =

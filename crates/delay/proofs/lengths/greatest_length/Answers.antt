@@ -1,8 +1,7 @@
 -- `lengths::greatest_length` is the greatest length of its kind and rank, by cases on the kind; its products stay
 -- below 64 times 65.
 -- Assumes nothing.
-use Prim.Native.Nat.{ℕ, ◌+◌, ◌-◌, ◌*◌, ◌≤◌}
-use native.Mathlib.Omega.{arith}
+use Prim.Native.Nat.{ℕ, ◌*◌, ◌≤◌}
 use native.Mathlib.Nat.{mul-le-mul}
 use Rattle.coxeter.proofs.KindLaws.{kind_of-one, kind_of-two, kind_of_three}
 use Rattle.delay.proofs.lengths.greatest_length.Goals as goal
@@ -10,20 +9,11 @@ use Rattle.delay.proofs.lengths.greatest_length.Goals as goal
 small : (a b : ℕ) → a ≤ 64 → b ≤ 65 → a * b ≤ 64 * 65
 small a b h g = mul-le-mul {n₁ = a} {m₁ = b} h g
 
-pub overflow_mul-result : goal.overflow_mul-result
-overflow_mul-result c = let n = c.args.rank in omega (arith, small n (n + 1) c.requires.1 (omega arith))
-
 pub returns-then-kind-eq1 : goal.returns-then-kind-eq1
 returns-then-kind-eq1 c = rw (kind_of-one _ c.if-kind-eq1.true)
 
-pub overflow_mul-result-then-kind-eq2 : goal.overflow_mul-result-then-kind-eq2
-overflow_mul-result-then-kind-eq2 c = let n = c.args.rank in omega (arith, small n n c.requires.1 (omega arith))
-
 pub returns-then-kind-eq2 : goal.returns-then-kind-eq2
 returns-then-kind-eq2 c = rw (kind_of-two _ c.if-kind-eq2.true)
-
-pub overflow_mul-result-2 : goal.overflow_mul-result-2
-overflow_mul-result-2 c = let n = c.args.rank in omega (arith, small n (n - 1) c.requires.1 (omega arith))
 
 pub returns : goal.returns
 returns c = rw (kind_of_three _ c.if-kind-eq1.false c.if-kind-eq2.false)

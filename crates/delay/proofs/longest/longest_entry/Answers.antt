@@ -1,22 +1,13 @@
 -- `longest::longest_entry` goes by the kind and, in kind D, by whether the rank is odd and the position the last.
 -- Assumes nothing.
-use Prim.Native.Nat.{◌+◌}
-use native.Mathlib.Omega.{arith}
-use Rattle.refusals.proofs.Bytes.{minus_cast_fits}
 use Rattle.delay.proofs.longest.Entries.{entry-A, entry-B, entry_even, entry_last, entry-odd}
 use Rattle.delay.proofs.longest.longest_entry.Goals as goal
 
 pub returns-then-kind-eq1 : goal.returns-then-kind-eq1
 returns-then-kind-eq1 c = let pre = c.requires in entry-A _ _ _ pre.0 pre.1 c.if-kind-eq1.true pre.2
 
-pub overflow_sub-result-then-kind-eq2 : goal.overflow_sub-result-then-kind-eq2
-overflow_sub-result-then-kind-eq2 c = minus_cast_fits (c.args.i + 1) (omega arith)
-
 pub returns-then-kind-eq2 : goal.returns-then-kind-eq2
 returns-then-kind-eq2 c = let pre = c.requires in entry-B _ _ _ pre.0 pre.1 c.if-kind-eq2.true pre.2
-
-pub overflow_sub-result-then-even : goal.overflow_sub-result-then-even
-overflow_sub-result-then-even c = minus_cast_fits (c.args.i + 1) (omega arith)
 
 pub returns-then-even : goal.returns-then-even
 returns-then-even c =
@@ -27,10 +18,6 @@ pub returns-then-i-n : goal.returns-then-i-n
 returns-then-i-n c =
     let pre = c.requires in
     entry_last _ _ _ pre.0 pre.1 c.if-kind-eq1.false c.if-kind-eq2.false c.if-even.false c.if-i-n.true pre.2
-
-pub overflow_sub-result-2 : goal.overflow_sub-result-2
-overflow_sub-result-2 c =
-    minus_cast_fits (c.args.i + 1) (omega arith)
 
 pub returns : goal.returns
 returns c =

@@ -1,14 +1,9 @@
 -- `longest::write_form` has the normal form of the longest window written by the call on windows, which no check
 -- refuses.
 -- Assumes nothing.
-use mathlib.Core.Path.{sym, ◌∙◌}
-use lib.Seq.{length-take-le}
-use borrow.Author.Rules.{rules}
+use mathlib.Core.Path.{◌∙◌}
 use Rattle.delay.proofs.longest.Entries.{form_written}
 use Rattle.delay.proofs.longest.write_form.Goals as goal
-
-pub slice_bounds-normal_form_of_window-end : goal.slice_bounds-normal_form_of_window-end
-slice_bounds-normal_form_of_window-end c = sym (length-take-le _ _ (search rules))
 
 pub returns : goal.returns
 returns c =

@@ -1,19 +1,13 @@
 -- `longest::write_longest` lends the front of its output to `set_longest`.
 -- Assumes nothing.
 use mathlib.Core.Path.{sym, ◌∙◌}
-use lib.Seq.{length-take-le}
-use borrow.Author.Rules.{rules}
 use Rattle.coxeter.proofs.Acceptance.{rank_accepted}
 use Rattle.coxeter.proofs.FrontLaws.{front_parts}
 use Rattle.distribution.proofs.Tables.{length-longest}
 use Rattle.delay.proofs.longest.write_longest.Goals as goal
 
-pub slice_bounds-set_longest-end-2 : goal.slice_bounds-set_longest-end-2
-slice_bounds-set_longest-end-2 c = sym (length-take-le _ _ (search rules))
-
-pub set_longest-requires : goal.set_longest-requires
-set_longest-requires c =
-    record { ranked = rank_accepted _ _ c.requires.rank_of; w_len = length-take-le _ _ (search rules) ∙ c.requires.m_value }
+pub set_longest-requires-clause-ranked : goal.set_longest-requires-clause-ranked
+set_longest-requires-clause-ranked c = rank_accepted _ _ c.requires.rank_of
 
 pub returns : goal.returns
 returns c =
