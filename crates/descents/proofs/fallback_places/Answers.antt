@@ -1,17 +1,11 @@
 -- `fallback_places` goes by its checks in their order, and then by the verdict on the two words.
 -- Assumes nothing.
-use Rattle.coxeter.proofs.Acceptance.{words_accepted}
 use Rattle.shortest_words.proofs.Verdicts.{fell_back_refused, fell_back_decided}
 use Rattle.descents.proofs.fallback_places.Goals as goal
 
 pub returns-then-refusal-ne0 : goal.returns-then-refusal-ne0
 returns-then-refusal-ne0 c =
     fell_back_refused _ _ _ _ _ c.ranked_words_refusal-refusal.ensures c.if-refusal-ne0.true
-
-pub decide_words-requires : goal.decide_words-requires
-decide_words-requires c =
-    let h = words_accepted _ _ _ _ _ c.ranked_words_refusal-refusal.ensures c.if-refusal-ne0.false in
-    record { rank_of = h.0; word_of = h.1.0; word_of_2 = h.1.1 }
 
 pub returns : goal.returns
 returns c =

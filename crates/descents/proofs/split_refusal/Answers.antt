@@ -4,7 +4,7 @@ use mathlib.Core.Path.{◌≡◌, sym, ◌∙◌}
 use mathlib.Core.List.{List}
 use Prim.Native.Nat.{ℕ}
 use Rattle.coxeter.specs.Checks.{check, ◌then◌, rank_refusal, word_refusal}
-use Rattle.coxeter.proofs.Refusals.{then_zero, then_none, then_refused, then_next}
+use Rattle.coxeter.proofs.Refusals.{then_zero, then_none, then_next}
 use Rattle.shortest_words.specs.Allowed.{wrong_set, set_refusal}
 use Rattle.descents.proofs.split_refusal.Goals as goal
 
@@ -15,9 +15,6 @@ unfolding set_refusal
 set_then_word k n set u {r} {s} e z q =
     let ranked = (then_zero (rank_refusal k n) (check 16 (wrong_set n set)) (sym e ∙ z)).0 in
     then_next (set_refusal k n set) r (word_refusal n u) s e z (q ∙ then_none (rank_refusal k n) (word_refusal n u) ranked)
-
-pub returns-then-refusal-ne0 : goal.returns-then-refusal-ne0
-returns-then-refusal-ne0 c = then_refused _ _ _ c.set_refusal-refusal.ensures c.if-refusal-ne0.true
 
 pub returns : goal.returns
 returns c = set_then_word _ _ _ _ c.set_refusal-refusal.ensures c.if-refusal-ne0.false c.preset_refusal.ensures

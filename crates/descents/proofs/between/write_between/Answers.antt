@@ -1,19 +1,9 @@
 -- `between::write_between` is the call on the two windows, whose answer is passed on if it refuses, and then check
 -- 19, check 14 and the copy.
 -- Assumes nothing.
-use mathlib.Core.Path.{sym, ap}
 use native.Mathlib.Omega.{arith}
-use lib.ListN.{length}
-use lib.Seq.{take-length}
 use Rattle.descents.proofs.between.Leading.{refused_by_windows, form_room, form_word, answered}
 use Rattle.descents.proofs.between.write_between.Goals as goal
-
-pub slice_bounds-normal_form_between-end : goal.slice_bounds-normal_form_between-end
-slice_bounds-normal_form_between-end g c = sym (ap length (take-length c.args.from.now))
-
-pub slice_bounds-normal_form_between-end-2 : goal.slice_bounds-normal_form_between-end-2
-slice_bounds-normal_form_between-end-2 g c =
-    sym (ap length (take-length c.args.to.now))
 
 pub returns-in_default : goal.returns-in_default
 returns-in_default g c =

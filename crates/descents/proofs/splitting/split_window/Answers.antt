@@ -2,27 +2,13 @@
 -- Assumes nothing.
 use mathlib.Core.Path.{refl}
 use Rattle.descents.proofs.Fallbacks.{part_length, part_is}
-use Rattle.descents.proofs.splitting.Halves.{stored_room, stored_is, stored_size, strip_asked, parts_asked, parts_are}
+use Rattle.descents.proofs.splitting.Halves.{stored_is, strip_asked, parts_asked, parts_are}
 use Rattle.descents.proofs.splitting.split_window.Goals as goal
-
-pub slice_bounds-strip-end : goal.slice_bounds-strip-end
-slice_bounds-strip-end c =
-    part_length _ _ _ _ _ c.invert.ensures.1 refl c.invert.ensures.0
 
 pub strip-requires : goal.strip-requires
 strip-requires c =
     let h = strip_asked _ _ 0 _ c.requires.0 c.requires.1 (part_is _ _ _ _ _ c.invert.ensures.1 refl) in
     record { ranked = h.0; window_of = h.1 }
-
-pub slice_bounds-rest-end-2 : goal.slice_bounds-rest-end-2
-slice_bounds-rest-end-2 c =
-    let size = part_length _ _ _ _ _ c.invert.ensures.1 refl c.invert.ensures.0 in
-    stored_room _ _ c.strip.new.w size c.strip.auto.w
-
-pub slice_bounds-write_parts-end : goal.slice_bounds-write_parts-end
-slice_bounds-write_parts-end c =
-    let size = part_length _ _ _ _ _ c.invert.ensures.1 refl c.invert.ensures.0 in
-    stored_size _ _ c.strip.new.w size c.strip.auto.w
 
 pub write_parts-requires : goal.write_parts-requires
 write_parts-requires c = let size = part_length _ _ _ _ _ c.invert.ensures.1 refl c.invert.ensures.0 in

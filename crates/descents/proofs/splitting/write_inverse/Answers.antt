@@ -5,7 +5,6 @@ use mathlib.Core.Path.{◌∙◌}
 use native.Mathlib.Omega.{arith}
 use Rattle.coxeter.proofs.Refusals.{then_none}
 use Rattle.descents.proofs.Answers.{told_refused}
-use Rattle.descents.proofs.splitting.Halves.{answered_length}
 use Rattle.descents.proofs.splitting.write_inverse.Goals as goal
 
 pub returns-in_default : goal.returns-in_default
@@ -13,8 +12,3 @@ returns-in_default c =
     let pre = c.requires in
     let passed = then_none _ _ pre.rank_of.0 ∙ pre.rank_of.1 in
     absurd (omega (arith, (told_refused _ _ _ _ _ passed c.normal_form_of_inverse.ensures _ c.in_default.is).0, pre.w_in_bounds))
-
-pub returns : goal.returns
-returns c =
-    let pre = c.requires in
-    answered_length _ _ _ (then_none _ _ pre.rank_of.0 ∙ pre.rank_of.1) c.normal_form_of_inverse.ensures _ c.in-Length.is

@@ -4,12 +4,9 @@ use mathlib.Core.Path.{◌≡◌}
 use Rattle.coxeter.specs.Kinds.{D, kind_of}
 use native.Mathlib.Omega.{arith}
 use Rattle.coxeter.proofs.KindLaws.{kind_of-one_or_two, kind_of-below, kind_of-above}
-use Rattle.descents.proofs.stripping.Turns.{back_below, back_identity, back_fork}
+use Rattle.descents.proofs.stripping.Turns.{back_identity, back_fork}
 use Rattle.descents.proofs.stripping.back.Goals as goal
 use Rattle.descents.proofs.stripping.back.Goals.{in_default-via-then-kind-lt1, in_default-via-else-kind-lt1+else-kind-lt3}
-
-pub returns-then-s-n : goal.returns-then-s-n
-returns-then-s-n c = back_below _ _ _ (omega arith) c.if-s-n.true
 
 pub returns-in-1 : goal.returns-in-1
 returns-in-1 c = back_identity _ _ _ (omega arith) (kind_of-one_or_two c.args.kind (omega arith) (omega arith))

@@ -1,11 +1,7 @@
 -- What `search` leaves open of the proof of `walk::is_identity`.
-use mathlib.Core.Path.{refl}
 use native.Mathlib.Omega.{arith}
 use Rattle.descents.proofs.walk.Walking.{identity_next, identity_differs, identity_end}
 use Rattle.descents.proofs.walk.is_identity.Goals as goal
-
-pub loop-i-init : goal.loop-i-init
-loop-i-init c = refl
 
 pub returns-then-x-i : goal.returns-then-x-i
 returns-then-x-i c = identity_differs _ _ c.loop-i-test.true c.if-x-i.true

@@ -1,21 +1,11 @@
 -- What `search` leaves open of the proof of `walk::write_places`.
-use native.Mathlib.Omega.{arith}
-use Rattle.coxeter.proofs.Lists.{storing_all}
 use Rattle.descents.proofs.walk.Walking.{writing_room, writing_kept, writing_left, writing_end}
 use Rattle.descents.proofs.walk.write_places.Goals as goal
 use Rattle.descents.proofs.walk.write_places.Goals.{then-s-ne0, else-s-ne0}
 
-pub loop-i-init : goal.loop-i-init
-loop-i-init c = storing_all
-
 pub bounds-places-at : goal.bounds-places-at
 bounds-places-at c =
     writing_room _ _ _ _ _ c.loop-i-test.true c.loop-i.invariant c.if-s-ne0.true c.requires.word_in_bounds
-
-pub overflow_add-at : goal.overflow_add-at
-overflow_add-at c =
-    let r = writing_room _ _ _ _ _ c.loop-i-test.true c.loop-i.invariant c.if-s-ne0.true c.requires.word_in_bounds in
-    omega arith
 
 pub loop-i-preserved : goal.loop-i-preserved
 loop-i-preserved c =
