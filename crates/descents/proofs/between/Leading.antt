@@ -15,8 +15,8 @@ use lib.Seq.{take-length}
 use borrow.Author.Tests.{ne_eqb, le-ltb}
 use Rattle.std.specs.List.{list_all}
 use Rattle.std.proofs.lemmas.Grind.{get_or_default_zero}
-use Rattle.coxeter.specs.declared.Answer.{Answer}
-use Rattle.coxeter.specs.declared.Answer.TheVariants as answer
+use Rattle.coxeter.specs.answers.Answer.{Answer}
+use Rattle.coxeter.specs.answers.Answer as answer
 use Rattle.coxeter.specs.Kinds.{kind_of}
 use Rattle.coxeter.specs.Windows.{product, inverse}
 use Rattle.coxeter.specs.Checks.{check, ◌then◌, too_long, wrong_letter, rank_refusal, word_refusal, window_refusal, RankOf, WordOf}
