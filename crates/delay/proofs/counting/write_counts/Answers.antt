@@ -3,12 +3,8 @@
 use mathlib.Core.Path.{sym, ap, ◌∙◌}
 use Prim.Native.Nat.{ℕ, ◌+◌}
 use Rattle.distribution.proofs.Tables.{length-distribution}
-use Rattle.distribution.proofs.Outcomes.{table_rank_small}
 use Rattle.coxeter.proofs.FrontLaws.{front_parts}
 use Rattle.delay.proofs.counting.write_counts.Goals as goal
-
-pub greatest_length-size-requires : goal.greatest_length-size-requires
-greatest_length-size-requires c = table_rank_small _ _ c.requires.rank_value
 
 pub returns : goal.returns
 returns c =

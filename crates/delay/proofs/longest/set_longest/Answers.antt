@@ -7,12 +7,10 @@ use Rattle.delay.proofs.longest.set_longest.Goals as goal
 
 pub loop-i-preserved : goal.loop-i-preserved
 loop-i-preserved c =
-    let pre = c.requires in
     let at = c.loop-i in
-    longest_next _ _ _ _ pre.ranked.0 (omega arith) (at.auto.w ∙ pre.w_len) (element_back _ c.longest_entry.type_inv ∙ c.longest_entry.ensures) at.invariant
+    longest_next _ _ _ _ c.args.group.in_range.0 (omega arith) (at.auto.w ∙ c.requires) (element_back _ c.longest_entry.type_inv ∙ c.longest_entry.ensures) at.invariant
 
 pub returns : goal.returns
 returns c =
-    let pre = c.requires in
     let at = c.loop-i in
-    longest_all _ _ _ _ pre.ranked.0 (omega arith) (at.auto.w ∙ pre.w_len) at.invariant
+    longest_all _ _ _ _ c.args.group.in_range.0 (omega arith) (at.auto.w ∙ c.requires) at.invariant

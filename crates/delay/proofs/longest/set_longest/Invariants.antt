@@ -2,9 +2,8 @@
 -- Assumes nothing.
 use mathlib.Core.Path.{◌≡◌}
 use lib.ListN.{take}
-use Rattle.coxeter.specs.Kinds.{kind_of}
 use Rattle.distribution.specs.Longest.{longest}
 use Rattle.delay.proofs.longest.set_longest.Given as goal
 
 abbrev pub invariant-loop-i : goal.invariant-loop-i
-invariant-loop-i l = take l.i l.w ≡ take l.i (longest (kind_of l.kind) l.n)
+invariant-loop-i l = take l.i l.w ≡ take l.i (longest l.group.kind l.group.rank)

@@ -5,14 +5,14 @@ use Rattle.descents.proofs.stripping.strip.Goals as goal
 
 pub loop-s-smaller-then-take_allowed_descent : goal.loop-s-smaller-then-take_allowed_descent
 loop-s-smaller-then-take_allowed_descent c =
-    turning_less c.loop-s.invariant.1 c.requires.ranked.0 c.loop-s-test.true _ _
+    turning_less c.loop-s.invariant.1 c.args.group.in_range.0 c.loop-s-test.true _ _
     c.take_allowed_descent.ensures c.if-take_allowed_descent.true _ c.back-s.ensures.0
 
 pub loop-s-preserved-then-take_allowed_descent : goal.loop-s-preserved-then-take_allowed_descent
 loop-s-preserved-then-take_allowed_descent c =
     let l = c.take_allowed_descent in (
       l.auto.w ∙ c.loop-s.invariant.0,
-      turning_taken c.loop-s.invariant.1 c.requires.ranked.0 c.loop-s-test.true _ _
+      turning_taken c.loop-s.invariant.1 c.args.group.in_range.0 c.loop-s-test.true _ _
           l.ensures c.if-take_allowed_descent.true _ c.back-s.ensures,
     )
 

@@ -8,11 +8,9 @@ use Rattle.descents.proofs.walk.keep_letters.Goals as goal
 pub loop-i-init : goal.loop-i-init
 loop-i-init c = walking_start _ _ _ _ c.requires.window_of
 
-pub take_descent-requires : goal.take_descent-requires
-take_descent-requires c =
-    let p = c.requires in
-    let i = c.loop-i.invariant in
-    record { le_s = walking_within _ _ _ _ _ i (omega arith) (letters_accepted _ _ p.word_of); ranked = p.ranked; window_of = i.passes }
+pub take_descent-requires-clause-le_s : goal.take_descent-requires-clause-le_s
+take_descent-requires-clause-le_s c =
+    walking_within _ _ _ _ _ c.loop-i.invariant (omega arith) (letters_accepted _ _ c.requires.word_of)
 
 pub overflow_add-kept : goal.overflow_add-kept
 overflow_add-kept c =

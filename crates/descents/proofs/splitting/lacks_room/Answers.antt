@@ -1,7 +1,0 @@
--- `splitting::lacks_room` compares the room with n × n, and if that is more with the length.
--- Assumes nothing.
-use Rattle.window.proofs.Squares.{square_room}
-use Rattle.descents.proofs.splitting.lacks_room.Goals as goal
-
-pub returns-then-n-room : goal.returns-then-n-room
-returns-then-n-room c = square_room _ _ _ _ c.requires.window_of c.if-n-room.true
