@@ -87,7 +87,7 @@ pub fn write_window(word: Word, out: &mut [i8]) -> Result<usize, Refusal>
 }
 
 // I9, C14: the product of two windows, to the front of `out`.
-pub fn write_product(pair: Windows, out: &mut [i8]) -> Result<usize, Refusal>
+pub(crate) fn write_product(pair: Windows, out: &mut [i8]) -> Result<usize, Refusal>
     ensures { Yields (writes 0 (product pair.entry.first.now pair.entry.second.now) out.old) (as_answer result) out.new }
 {
     let m = pair.second.len();
