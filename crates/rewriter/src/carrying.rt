@@ -88,12 +88,10 @@ fn note_passed(
         return;
     }
     let end = room_for(families.len(), s, m);
-    let mut i = 0;
-    while i < end {
+    for i in 0..end {
         families[s + i] = 2;
         places[s + i] = (q - 1 - i) as u16;
         lengths[s + i] = left as u16;
-        i += 1;
     }
 }
 
@@ -106,19 +104,16 @@ fn shift(rank: u8, levels: u8, word: &mut [u8], q: usize) -> usize
         × (1 ≤ result → commuting rank levels (get_or word.old (result - 1) 0) (get_or word.old q 0) ≡ false) }
 {
     let x = word[q];
-    let mut t = q;
-    while 0 < t {
-        let l = word[t - 1];
-        if commutes(rank, levels, l, x) {
-            word[t] = l;
-            t -= 1;
-        } else {
-            word[t] = x;
-            return t;
+    for t in (0..q).rev() {
+        let l = word[t];
+        if !commutes(rank, levels, l, x) {
+            word[t + 1] = x;
+            return t + 1;
         }
+        word[t + 1] = l;
     }
-    word[t] = x;
-    t
+    word[0] = x;
+    0
 }
 
 // The letter at q passes letters by family 2, one step each, as far as it goes. Returns where it stands then.
@@ -151,11 +146,7 @@ fn carry(word: &mut [u8], place: usize, q: usize, first: u8)
     ensures { word.new ≡ take place word.old
         ++ ((first ∷ take (q - place) (drop place word.old)) ++ drop (suc q) word.old) }
 {
-    let mut t = q;
-    while place < t {
-        word[t] = word[t - 1];
-        t -= 1;
-    }
+    word.copy_within(place..q, place + 1);
     word[place] = first;
 }
 
@@ -165,11 +156,7 @@ fn delete(word: &mut [u8], place: usize)
     ensures { take (length word.old - 2) word.new
         ≡ take place word.old ++ drop (place + 2) word.old }
 {
-    let mut t = place + 2;
-    while t < word.len() {
-        word[t - 2] = word[t];
-        t += 1;
-    }
+    word.copy_within(place + 2.., place);
 }
 
 // How many steps were made, how many letters the word has then, and where the letter stands that moves: 0 if it

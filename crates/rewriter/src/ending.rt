@@ -28,14 +28,12 @@ fn start_of(word: &[u8], floor: usize, from: usize, i: u8) -> usize
     requires { from ≤ length word.now }
     ensures { Stopped word.now floor from i result }
 {
-    let mut t = from;
-    while floor < t {
-        t -= 1;
+    for t in (floor..from).rev() {
         if word[t] <= i {
             return t;
         }
     }
-    t
+    floor.min(from)
 }
 
 // Where a left side of 2n letters would begin that ends at q, or 0.

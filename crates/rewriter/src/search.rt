@@ -155,8 +155,7 @@ pub(crate) fn fitting_rule(kind: u8, rank: u8, word: &[u8], place: usize) -> Fit
     let last = last_index_of(kind, rank, i);
     let fork = fork_of(kind, rank);
     let mut j = i;
-    let mut at = place + 1;
-    while at < word.len() {
+    for at in place + 1..word.len() {
         let x = word[at];
         let next = next_index(rank, levels, last, j, x);
         if next == 0 {
@@ -174,7 +173,6 @@ pub(crate) fn fitting_rule(kind: u8, rank: u8, word: &[u8], place: usize) -> Fit
             };
         }
         j = next;
-        at += 1;
     }
     Fitting::Nothing
 }

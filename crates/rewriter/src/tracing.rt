@@ -56,14 +56,12 @@ fn make(
 {
     let mut size = 0;
     let mut steps = 0;
-    let mut i = 0;
-    while i < word.len() {
-        work[size] = word[i];
-        i += 1;
+    for (i, letter) in word.iter().enumerate() {
+        work[size] = *letter;
         let read = insert(
             kind,
             rank,
-            &word[i..],
+            &word[i + 1..],
             steps,
             families,
             places,

@@ -9,7 +9,7 @@ use mathlib.Core.Bool.{false}
 use mathlib.Core.Logic.{inl, inr}
 use mathlib.Core.List.{List}
 use mathlib.Core.Option.{Option, none, some, none-ne-some}
-use Prim.Native.Nat.{ℕ, suc, ◌+◌, ◌-◌, ◌*◌, ◌≤◌, ◌<◌}
+use Prim.Native.Nat.{ℕ, suc, ◌+◌, ◌-◌, ◌*◌, ◌≤◌, ◌<◌, min}
 use native.Mathlib.Nat.{lt_of_not-le}
 use native.Mathlib.Decide.{dec_le, ℕ_discrete}
 use native.Mathlib.Omega.{arith}
@@ -58,8 +58,8 @@ module _ (w : List ℕ) (floor from i t : ℕ) (a : LettersAbove w from i t) whe
     ends = inr (omega (arith, a.inside), h);
   }
 
-  pub above_end : t ≤ floor → Stopped w floor from i t
-  above_end h = record { inside = a.inside; above = λ v b c. a.above v (omega arith) c; ends = inl h }
+  pub above_end : {p : ℕ} → t ≤ floor → p ≡ min floor from → Stopped w floor from i p
+  above_end h e = record { inside = omega arith; above = λ v b c. a.above v (omega (arith, a.inside)) c; ends = inl (omega arith) }
 
 -- where `place_of` has stopped
 abbrev pub Begun : List ℕ → ℕ → ℕ → ℕ → Type 0

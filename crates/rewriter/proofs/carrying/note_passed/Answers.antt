@@ -29,9 +29,6 @@ overflow_add-lengths c = omega arith
 pub bounds-lengths-s : goal.bounds-lengths-s
 bounds-lengths-s c = omega (arith, stores_size _ _ _ _ c.loop-i.invariant.lengths_are)
 
-pub overflow_add-i : goal.overflow_add-i
-overflow_add-i c = omega arith
-
 pub loop-i-preserved : goal.loop-i-preserved
 loop-i-preserved c =
     let i = c.loop-i.invariant in

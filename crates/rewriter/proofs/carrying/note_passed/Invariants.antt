@@ -16,6 +16,3 @@ pub record StepsNoted (families₀ places₀ lengths₀ : List ℕ) (s q left en
 abbrev pub invariant-loop-i : goal.invariant-loop-i
 invariant-loop-i l =
     StepsNoted l.initial.families l.initial.places l.initial.lengths l.s l.q l.left l.end l.families l.places l.lengths l.i
-
-abbrev pub decreases-loop-i : goal.decreases-loop-i
-decreases-loop-i l = l.end - l.i

@@ -17,6 +17,3 @@ pub record Shifted (rank levels : ℕ) (word₀ : List ℕ) (q x : ℕ) (word : 
 
 abbrev pub invariant-loop-t : goal.invariant-loop-t
 invariant-loop-t l = Shifted l.rank l.levels l.initial.word l.q l.x l.word l.t
-
-abbrev pub decreases-loop-t : goal.decreases-loop-t
-decreases-loop-t l = l.t
