@@ -8,7 +8,7 @@ ghost use Rattle.coxeter.specs.Checks.{WordOf};
 ghost use Rattle.traces.proofs.TwoLetters.{commuting};
 ghost use Rattle.traces.proofs.Tracing.{stores, Ready, Carried, Inserted};
 
-use crate::ending::{Ending, ending_rule};
+use crate::ending::ending_rule;
 use crate::search::levels_of;
 
 // How many steps were made, and how many letters the word has then.
@@ -190,19 +190,15 @@ fn turn(
         word.old result.steps families.new places.new lengths.new word.new result.size) }
 {
     let size = word.len();
-    let Ending::Rule {
-        family,
-        place,
-        first,
-    } = ending_rule(kind, rank, word, q)
-    else {
+    let Some(rule) = ending_rule(kind, rank, word, q) else {
         return Moved {
             steps: s,
             size,
             place: 0,
         };
     };
-    if family == 1 {
+    let place = rule.place;
+    if rule.family == 1 {
         let left = size - 2;
         note(families, places, lengths, s, 1, place, left + rest.len());
         delete(word, place);
@@ -217,11 +213,11 @@ fn turn(
         places,
         lengths,
         s,
-        family,
+        rule.family,
         place,
         size + rest.len(),
     );
-    carry(word, place, q, first);
+    carry(word, place, q, rule.first);
     Moved {
         steps: s + 1,
         size,

@@ -1,7 +1,7 @@
 // The rule whose left side ends with the letter that moves. Its first letter is looked for from that letter back,
 // less than 2n places; what stands from there on is then a block, whose last letter and length tell which, and so
 // the rule.
-ghost use Rattle.std.specs.Prelude.{◌≡◌, suc, ◌-◌, ◌*◌, ◌≤◌, ◌<◌, eqb, length, get_or, take};
+ghost use Rattle.std.specs.Prelude.{◌≡◌, suc, ◌-◌, ◌*◌, ◌≤◌, ◌<◌, eqb, length, get_or, take, Some, None};
 ghost use Rattle.std.proofs.Math.Option.{none, some};
 ghost use Rattle.coxeter.specs.Kinds.{pick, kind_of};
 ghost use Rattle.coxeter.specs.NormalForm.{levels, last_index};
@@ -18,9 +18,10 @@ use crate::writing::first_letter;
 
 // A rule that ends there: its family, where it begins and the letter that its right side puts first.
 #[derive(Clone, Copy)]
-pub(crate) enum Ending {
-    Rule { family: u8, place: usize, first: u8 },
-    Nothing,
+pub(crate) struct Ending {
+    pub(crate) family: u8,
+    pub(crate) place: usize,
+    pub(crate) first: u8,
 }
 
 // The last place before `from` with a letter not above i, but none before `floor`.
@@ -108,59 +109,62 @@ fn index_of(kind: u8, rank: u8, i: u8, m: u8, l: u8) -> u8
 }
 
 // The rule with the left side [i,j] x, if there is one, as it begins at `place`.
-fn block_rule(kind: u8, rank: u8, i: u8, j: u8, x: u8, place: usize) -> Ending
+fn block_rule(kind: u8, rank: u8, i: u8, j: u8, x: u8, place: usize) -> Option<Ending>
     requires ranked { Ranked (kind_of kind) rank }
     requires i_le_rank { (i ≤ rank) × (j ≤ 2 * rank) × (x ≤ rank) }
     ensures { result ≡ pick (eqb (next_index rank (levels (kind_of kind) rank) (last_index (kind_of kind) rank i) j x) 0)
-        (pick (eqb (family_at rank (fork (kind_of kind) rank) i j x) 0) Ending.Nothing
-        (Ending.Rule (family_at rank (fork (kind_of kind) rank) i j x) place
-        (first_letter rank (family_at rank (fork (kind_of kind) rank) i j x) i (shown_index (family_at rank (fork (kind_of kind) rank) i j x) j x))))
-        Ending.Nothing }
+        (pick (eqb (family_at rank (fork (kind_of kind) rank) i j x) 0) None
+        (Some (record {
+          family = family_at rank (fork (kind_of kind) rank) i j x;
+          place = place;
+          first = first_letter rank (family_at rank (fork (kind_of kind) rank) i j x) i (shown_index (family_at rank (fork (kind_of kind) rank) i j x) j x);
+        })))
+        None }
 {
     let levels = levels_of(kind, rank);
     let last = last_index_of(kind, rank, i);
     let next = next_index(rank, levels, last, j, x);
     if next != 0 {
-        return Ending::Nothing;
+        return None;
     }
     let fork = fork_of(kind, rank);
     let family = family_at(rank, fork, i, j, x);
     if family == 0 {
-        return Ending::Nothing;
+        return None;
     }
     let shown = shown_index(family, j, x);
     let first = first_letter(rank, family, i, shown);
-    Ending::Rule {
+    Some(Ending {
         family,
         place,
         first,
-    }
+    })
 }
 
-// The rule that ends with the letter at q, which does not commute with the one before it.
-pub(crate) fn ending_rule(kind: u8, rank: u8, word: &[u8], q: usize) -> Ending
+// The rule that ends with the letter at q, if there is one; the letter does not commute with the one before it.
+pub(crate) fn ending_rule(kind: u8, rank: u8, word: &[u8], q: usize) -> Option<Ending>
     requires { Stuck (kind_of kind) rank word.now q }
     ensures { result ≡ elim (lowest_redex (kind_of kind) rank (take (suc q) word.now)) [
-      | none ↦ Ending.Nothing
-      | some s ↦ Ending.Rule s.rule.family s.place (get_or s.rule.right 0 0)
+      | none ↦ None
+      | some s ↦ Some (record { family = s.rule.family; place = s.place; first = get_or s.rule.right 0 0 })
     ] }
 {
     if q == 0 {
-        return Ending::Nothing;
+        return None;
     }
     let l = word[q - 1];
     let x = word[q];
     if l == x {
-        return Ending::Rule {
+        return Some(Ending {
             family: 1,
             place: q - 1,
             first: 0,
-        };
+        });
     }
     let place = place_of(kind, rank, word, q);
     let low = lower_of(l, x);
     if word[place] != low {
-        return Ending::Nothing;
+        return None;
     }
     let j = index_of(kind, rank, low, (q - place) as u8, l);
     block_rule(kind, rank, low, j, x, place)

@@ -7,7 +7,7 @@ ghost use Rattle.rules.specs.Calls.{Rewrote, single};
 ghost use Rattle.traces.specs.Traces.{TraceYields, rewriting_to_end, number_of_steps};
 
 pub use rules::Rewrite;
-use search::{Fitting, fitting_rule};
+use search::fitting_rule;
 pub use traces::ToEnd;
 use tracing::{count, write_trace};
 pub use window::Answer;
@@ -32,18 +32,18 @@ pub fn rewrite_at(kind: u8, rank: u8, word: &[u8], place: usize, out: &mut [u8])
     if word.len() <= place {
         return Rewrite::Refused(12);
     }
-    let Fitting::Rule { family, i, j, left } = fitting_rule(kind, rank, word, place) else {
+    let Some(rule) = fitting_rule(kind, rank, word, place) else {
         return Rewrite::NoneFits;
     };
-    let length = new_length(family, left, word.len());
+    let length = new_length(rule, word.len());
     if out.len() < length {
         return Rewrite::Refused(14);
     }
-    write_rewritten(rank, family, i, j, left, word, place, out);
+    write_rewritten(rank, rule, word, place, out);
     Rewrite::Used {
-        family,
-        i,
-        j,
+        family: rule.family,
+        i: rule.i,
+        j: rule.j,
         length,
     }
 }

@@ -1,6 +1,6 @@
 // The search for the rule that fits at a place. The letters are followed along the way of the blocks [i,j] of the
 // first letter i; the letter that leaves the way decides the rule, so at most 2n letters are looked at.
-ghost use Rattle.std.specs.Prelude.{◌≡◌, ◌*◌, ◌<◌, ◌≤◌, length};
+ghost use Rattle.std.specs.Prelude.{◌≡◌, ◌*◌, ◌<◌, ◌≤◌, length, Some, None};
 ghost use Rattle.std.proofs.Math.Option.{none, some};
 ghost use Rattle.coxeter.specs.Kinds.{kind_of};
 ghost use Rattle.coxeter.specs.NormalForm.{levels, last_index};
@@ -12,14 +12,11 @@ ghost use Rattle.rules.proofs.Scan.{next_index, family_at_end, family_at, shown_
 
 // A rule that fits, as a rewrite returns it, with the length of its left side.
 #[derive(Clone, Copy)]
-pub(crate) enum Fitting {
-    Rule {
-        family: u8,
-        i: u8,
-        j: u8,
-        left: usize,
-    },
-    Nothing,
+pub(crate) struct Fitting {
+    pub(crate) family: u8,
+    pub(crate) i: u8,
+    pub(crate) j: u8,
+    pub(crate) left: usize,
 }
 
 // The number of levels, which is also the step at which the way of a block turns.
@@ -140,14 +137,14 @@ pub(crate) fn shown_index(family: u8, j: u8, x: u8) -> u8
     0
 }
 
-// The rule that fits at a place.
-pub(crate) fn fitting_rule(kind: u8, rank: u8, word: &[u8], place: usize) -> Fitting
+// The rule that fits at a place, if there is one.
+pub(crate) fn fitting_rule(kind: u8, rank: u8, word: &[u8], place: usize) -> Option<Fitting>
     requires ranked { Ranked (kind_of kind) rank }
     requires word_of { WordOf rank word.now }
     requires place_in_bounds { place < length word.now }
     ensures { result ≡ elim (first_fitting (rules (kind_of kind) rank) word.now place) [
-      | none ↦ Fitting.Nothing
-      | some x ↦ Fitting.Rule x.family x.i x.j (length x.left)
+      | none ↦ None
+      | some x ↦ Some (record { family = x.family; i = x.i; j = x.j; left = length x.left })
     ] }
 {
     let i = word[place];
@@ -161,18 +158,18 @@ pub(crate) fn fitting_rule(kind: u8, rank: u8, word: &[u8], place: usize) -> Fit
         if next == 0 {
             let family = family_at(rank, fork, i, j, x);
             if family == 0 {
-                return Fitting::Nothing;
+                return None;
             }
             let shown = shown_index(family, j, x);
             let left = at + 1 - place;
-            return Fitting::Rule {
+            return Some(Fitting {
                 family,
                 i,
                 j: shown,
                 left,
-            };
+            });
         }
         j = next;
     }
-    Fitting::Nothing
+    None
 }

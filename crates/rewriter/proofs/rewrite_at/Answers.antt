@@ -29,12 +29,12 @@ returns-in_default c =
 pub new_length-length-requires : goal.new_length-length-requires
 new_length-length-requires c =
     let passed = accepted _ _ _ c.preset_refusal-refusal.ensures c.if-refusal-ne0.false in
-    let w = fitted (accepted_least passed) c.if-word-place.false c.fitting_rule.ensures c.in-Rule.is in omega (arith, w.inside)
+    let w = fitted (accepted_least passed) c.if-word-place.false c.fitting_rule.ensures c.in-Some.is in omega (arith, w.inside)
 
 pub returns-then-out-length : goal.returns-then-out-length
 returns-then-out-length c =
     let passed = accepted _ _ _ c.preset_refusal-refusal.ensures c.if-refusal-ne0.false in
-    let handed = fitted (accepted_least passed) c.if-word-place.false c.fitting_rule.ensures c.in-Rule.is in
+    let handed = fitted (accepted_least passed) c.if-word-place.false c.fitting_rule.ensures c.in-Some.is in
     rewrote_short _ _ passed c.if-word-place.false handed
     c.new_length-length.ensures
     c.if-out-length.true
@@ -42,14 +42,14 @@ returns-then-out-length c =
 pub write_rewritten-requires : goal.write_rewritten-requires
 write_rewritten-requires c =
     let passed = accepted _ _ _ c.preset_refusal-refusal.ensures c.if-refusal-ne0.false in
-    let w = fitted (accepted_least passed) c.if-word-place.false c.fitting_rule.ensures c.in-Rule.is in
+    let w = fitted (accepted_least passed) c.if-word-place.false c.fitting_rule.ensures c.in-Some.is in
     let r = rank_between passed in
     record { le_rank = (r.0, omega (arith, w.low, r)); le_left = (w.nonempty, w.inside); left_in_bounds = rw c.new_length-length.ensures at c.if-out-length.false }
 
 pub returns : goal.returns
 returns c =
     let passed = accepted _ _ _ c.preset_refusal-refusal.ensures c.if-refusal-ne0.false in
-    let handed = fitted (accepted_least passed) c.if-word-place.false c.fitting_rule.ensures c.in-Rule.is in
+    let handed = fitted (accepted_least passed) c.if-word-place.false c.fitting_rule.ensures c.in-Some.is in
     rewrote_used _ _ passed c.if-word-place.false handed
     c.new_length-length.ensures
     c.if-out-length.false

@@ -18,16 +18,20 @@ use Rattle.coxeter.proofs.KindLaws.{levels_le}
 use Rattle.coxeter.proofs.Lists.{drop_next}
 use Rattle.coxeter.proofs.LetterLaws.{letter_at}
 use Rattle.rewriter.specs.declared.search.Fitting.{Fitting}
-use Rattle.rewriter.specs.declared.search.Fitting.TheVariants.{Rule as Shown, Nothing}
+use Rattle.std.specs.Prelude.{Option as Maybe, Some, None}
 use Rattle.rules.specs.Rules.{Rule, rules, first_fitting}
 use Rattle.rules.proofs.NextLetter.{last_index_le}
 use Rattle.rules.proofs.Scan.{fork, next_index, family_at, shown_index, rule_at, found, walk, scan, going, Along, start, further, along_next, walk_next}
 use Rattle.rules.proofs.ScanRules.{scan_is_first_fitting}
 use Rattle.rules.proofs.Letters.{block_one}
 
+-- the rule of family f that shows i and j, with l letters on its left side, as the search hands it on
+abbrev pub shown : ℕ → ℕ → ℕ → ℕ → Fitting
+shown f i j l = record { family = f; i = i; j = j; left = l }
+
 -- a rule that fits, as the search hands it on
-abbrev pub fitting_of : Option Rule → Fitting
-fitting_of o = elim o [ none ↦ Nothing | some x ↦ Shown x.family x.i x.j (length x.left) ]
+abbrev pub fitting_of : Option Rule → Maybe Fitting
+fitting_of o = elim o [ none ↦ None | some x ↦ Some (shown x.family x.i x.j (length x.left)) ]
 
 -- the search has followed the block [i,j] from place p up to t
 pub record Searching (k : Kind) (n : ℕ) (u : List ℕ) (p i j t : ℕ) : Type 0 where
@@ -49,7 +53,7 @@ pub last_index_le_of : (k : Kind) (n i m : ℕ) → m ≡ last_index k n i → m
 last_index_le_of k n i m e = omega (arith, last_index_le k n i)
 
 fitting_of-found : (k : Kind) (n i j x f l : ℕ) → length (block k n i j) + 1 ≡ l
-    → fitting_of (found k n i j x f) ≡ pick (eqb f 0) Nothing (Shown f i (shown_index f j x) l)
+    → fitting_of (found k n i j x f) ≡ pick (eqb f 0) None (Some (shown f i (shown_index f j x) l))
 unfolding found rule_at
 fitting_of-found k n i j x f l e = elim (ℕ_discrete f 0) [
   | yes z ↦ rw (eq-eqb f 0 z)
@@ -83,7 +87,7 @@ module _ (k : Kind) (n : ℕ) (u : List ℕ) (w : Searchable k n u) where
 
   pub searching_found : {c m d p i j t s f : ℕ} → c ≡ levels k n → m ≡ last_index k n i → d ≡ fork k n → Searching k n u p i j t → t < length u
       → s ≡ next_index n c m j (get_or u t 0) → s ≡ 0 → f ≡ family_at n d i j (get_or u t 0)
-      → fitting_of (first_fitting (rules k n) u p) ≡ pick (eqb f 0) Nothing (Shown f i (shown_index f j (get_or u t 0)) (t + 1 - p))
+      → fitting_of (first_fitting (rules k n) u p) ≡ pick (eqb f 0) None (Some (shown f i (shown_index f j (get_or u t 0)) (t + 1 - p)))
   unfolding walk
   searching_found {p} {i} {j} {t} {f} a b o q h e z g =
       let x = get_or u t 0 in
@@ -94,7 +98,7 @@ module _ (k : Kind) (n : ℕ) (u : List ℕ) (w : Searchable k n u) where
       (sym (scan_is_first_fitting k n w.rank u p w.letters) ∙ q.rest ∙ ap (walk k n i j) (drop_next u t 0 h) ∙ o)
       ∙ fitting_of-found k n i j x f (t + 1 - p) (omega (arith, q.passed))
 
-  pub searching_end : (p i j t : ℕ) → Searching k n u p i j t → length u ≤ t → Nothing ≡ fitting_of (first_fitting (rules k n) u p)
+  pub searching_end : (p i j t : ℕ) → Searching k n u p i j t → length u ≤ t → None ≡ fitting_of (first_fitting (rules k n) u p)
   unfolding walk
   searching_end p i j t q h =
       sym (ap fitting_of

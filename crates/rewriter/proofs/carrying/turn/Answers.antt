@@ -23,37 +23,37 @@ returns-in_default c =
 
 pub overflow_sub-left : goal.overflow_sub-left
 overflow_sub-left c =
-    omega (arith, turn_pair c.requires.ready _ _ _ c.ending_rule.ensures c.in-Rule.is c.if-family-eq1.true)
+    omega (arith, turn_pair c.requires.ready _ c.ending_rule.ensures c.in-Some.is c.if-rule-eq1.true)
 
 pub note-requires : goal.note-requires
 note-requires c =
     let a = c.requires.ready in
-    let p = turn_place a _ _ _ c.ending_rule.ensures c.in-Rule.is in
+    let p = turn_place a _ c.ending_rule.ensures c.in-Some.is in
     record { places_len = (a.as_places, a.as_lengths); place_bound = (omega (arith, p, ready_inside a, a.short), omega (arith, a.short)) }
 
 pub delete-requires : goal.delete-requires
 delete-requires c =
-    turn_pair c.requires.ready _ _ _ c.ending_rule.ensures c.in-Rule.is c.if-family-eq1.true
+    turn_pair c.requires.ready _ c.ending_rule.ensures c.in-Some.is c.if-rule-eq1.true
 
-pub returns-then-family-eq1 : goal.returns-then-family-eq1
-returns-then-family-eq1 c =
-    let d = turn_deleted c.requires.ready _ _ _ c.ending_rule.ensures c.in-Rule.is _ c.if-family-eq1.true
+pub returns-then-rule-eq1 : goal.returns-then-rule-eq1
+returns-then-rule-eq1 c =
+    let d = turn_deleted c.requires.ready _ c.ending_rule.ensures c.in-Some.is _ c.if-rule-eq1.true
     c.note.ensures.0 c.note.ensures.1 c.note.ensures.2 c.delete.ensures in
     record { place_bound = omega arith; size_value = moved_ended d }
 
 pub note-requires-2 : goal.note-requires-2
 note-requires-2 c =
     let a = c.requires.ready in
-    let p = turn_place a _ _ _ c.ending_rule.ensures c.in-Rule.is in
+    let p = turn_place a _ c.ending_rule.ensures c.in-Some.is in
     record { places_len = (a.as_places, a.as_lengths); place_bound = (omega (arith, p, ready_inside a, a.short), omega (arith, a.short)) }
 
 pub carry-requires : goal.carry-requires
 carry-requires c =
-    (omega (arith, turn_place c.requires.ready _ _ _ c.ending_rule.ensures c.in-Rule.is), ready_inside c.requires.ready)
+    (omega (arith, turn_place c.requires.ready _ c.ending_rule.ensures c.in-Some.is), ready_inside c.requires.ready)
 
 pub returns : goal.returns
 returns c =
-    let p = turn_place c.requires.ready _ _ _ c.ending_rule.ensures c.in-Rule.is in
-    let d = turn_carried c.requires.ready _ _ _ c.ending_rule.ensures c.in-Rule.is c.if-family-eq1.false
+    let p = turn_place c.requires.ready _ c.ending_rule.ensures c.in-Some.is in
+    let d = turn_carried c.requires.ready _ c.ending_rule.ensures c.in-Some.is c.if-rule-eq1.false
     c.note-2.ensures.0 c.note-2.ensures.1 c.note-2.ensures.2 c.carry.ensures in
     record { place_bound = omega (arith, p); size_value = moved_carried c.requires.ready d }
