@@ -10,33 +10,6 @@ ghost use Rattle.traces.proofs.Tracing.{Made};
 use crate::carrying::{Count, insert};
 use crate::writing::copy;
 
-// Room for every word.
-fn letters_4096() -> [u8; 4096]
-    ensures { 4096 ≡ length result }
-{
-    [0u8; 4096]
-}
-
-// Room for a word of at most 128 letters, which takes less time to make.
-fn letters_128() -> [u8; 128]
-    ensures { 128 ≡ length result }
-{
-    [0u8; 128]
-}
-
-// The value is not read: `count_in` lends no place of these, since it notes no step.
-fn no_numbers() -> [u16; 1]
-    ensures { 1 ≡ length result }
-{
-    [0u16; 1]
-}
-
-fn no_families() -> [u8; 1]
-    ensures { 1 ≡ length result }
-{
-    [0u8; 1]
-}
-
 // The rewriting of an accepted word, noted in three equally long lists as far as they go; the final word is left at
 // the front of `work`.
 fn make(
@@ -74,44 +47,33 @@ fn make(
     Count { steps, size }
 }
 
-// How many steps the rewriting of an accepted word has, and how many letters its final word, by a work array.
-fn count_in(kind: u8, rank: u8, word: &[u8], work: &mut [u8]) -> Count
+// How many steps the rewriting of an accepted word has, and how many letters its final word, by a work array of N
+// letters. No step is noted.
+fn count_in<const N: usize>(kind: u8, rank: u8, word: &[u8]) -> Count
     requires accepted_word { AcceptedWord kind rank word.now }
-    requires word_in_bounds { length word.now ≤ length work.old }
+    requires word_in_bounds { (length word.now ≤ N) × (N ≤ 4096) }
     ensures { (result.steps ≡ length (trace (kind_of kind) rank word.now).lines)
         × (result.size ≡ length (trace (kind_of kind) rank word.now).final) }
 {
-    let mut families = no_families();
-    let mut places = no_numbers();
-    let mut lengths = no_numbers();
-    make(
-        kind,
-        rank,
-        word,
-        &mut families[..0],
-        &mut places[..0],
-        &mut lengths[..0],
-        work,
-    )
+    let mut work = [0; N];
+    make(kind, rank, word, &mut [], &mut [], &mut [], &mut work)
 }
 
-// `count_in` with a local buffer.
+// `count_in` with a work array that is large enough; a small one takes less time to make.
 pub(crate) fn count(kind: u8, rank: u8, word: &[u8]) -> Count
     requires { AcceptedWord kind rank word.now }
     ensures { (result.steps ≡ length (trace (kind_of kind) rank word.now).lines)
         × (result.size ≡ length (trace (kind_of kind) rank word.now).final) }
 {
     if word.len() <= 128 {
-        let mut work = letters_128();
-        return count_in(kind, rank, word, &mut work);
+        return count_in::<128>(kind, rank, word);
     }
-    let mut work = letters_4096();
-    count_in(kind, rank, word, &mut work)
+    count_in::<4096>(kind, rank, word)
 }
 
 // The rewriting of an accepted word, which has `steps` steps, written to lists and an output with room for it, by a
-// work array.
-fn write_in(
+// work array of N letters.
+fn write_in<const N: usize>(
     kind: u8,
     rank: u8,
     word: &[u8],
@@ -120,18 +82,18 @@ fn write_in(
     places: &mut [u16],
     lengths: &mut [u16],
     out: &mut [u8],
-    work: &mut [u8],
 )
     requires accepted_word { AcceptedWord kind rank word.now }
     requires steps_value { steps ≡ length (trace (kind_of kind) rank word.now).lines }
     requires steps_in_bounds { (steps ≤ length families.old) × (steps ≤ length places.old) × (steps ≤ length lengths.old) }
     requires word_in_bounds { length (trace (kind_of kind) rank word.now).final ≤ length out.old }
-    requires word_in_bounds_2 { length word.now ≤ length work.old }
+    requires word_in_bounds_2 { (length word.now ≤ N) × (N ≤ 4096) }
     ensures { (families.new ≡ front (families_of (trace (kind_of kind) rank word.now).lines) families.old)
         × (places.new ≡ front (places_of (trace (kind_of kind) rank word.now).lines) places.old)
         × (lengths.new ≡ front (lengths_of (trace (kind_of kind) rank word.now).lines) lengths.old)
         × (out.new ≡ front (trace (kind_of kind) rank word.now).final out.old) }
 {
+    let mut work = [0; N];
     let made = make(
         kind,
         rank,
@@ -139,13 +101,12 @@ fn write_in(
         &mut families[..steps],
         &mut places[..steps],
         &mut lengths[..steps],
-        work,
+        &mut work,
     );
-    let size = made.size;
-    copy(&work[..size], out, 0);
+    copy(&work[..made.size], out, 0);
 }
 
-// `write_in` with a local buffer.
+// `write_in` with a work array that is large enough.
 pub(crate) fn write_trace(
     kind: u8,
     rank: u8,
@@ -166,14 +127,8 @@ pub(crate) fn write_trace(
         × (out.new ≡ front (trace (kind_of kind) rank word.now).final out.old) }
 {
     if word.len() <= 128 {
-        let mut work = letters_128();
-        write_in(
-            kind, rank, word, steps, families, places, lengths, out, &mut work,
-        );
+        write_in::<128>(kind, rank, word, steps, families, places, lengths, out);
         return;
     }
-    let mut work = letters_4096();
-    write_in(
-        kind, rank, word, steps, families, places, lengths, out, &mut work,
-    );
+    write_in::<4096>(kind, rank, word, steps, families, places, lengths, out);
 }
