@@ -31,9 +31,6 @@ pub record Making (k : Kind) (n : ℕ) (word families places lengths work₀ : L
   pub inside : i ≤ length word
   pub short : size ≤ i
   pub work_size : length work ≡ length work₀
-  pub families_size : length families' ≡ length families
-  pub places_size : length places' ≡ length places
-  pub lengths_size : length lengths' ≡ length lengths
   pub normal : Normal k n (take size work)
   pub same : finish k n 0 families places lengths word ≡ finish k n s families' places' lengths' (take size work ++ drop i word)
 
@@ -50,9 +47,6 @@ module _ {k n : ℕ} {word : List ℕ} (families places lengths work₀ : List �
     inside = omega arith;
     short = omega arith;
     work_size = refl;
-    families_size = refl;
-    places_size = refl;
-    lengths_size = refl;
     normal = record { letters = refl; irreducible = nil_irreducible kind n rank.0 };
     same = refl;
   }
@@ -99,7 +93,7 @@ module _ {k n : ℕ} {word : List ℕ} (families places lengths work₀ : List �
       all : finish kind n 0 families places lengths word ≡ finish kind n s families' places' lengths' (lent ++ rest)
       all = m.same ∙ ap (finish kind n s families' places' lengths') (sym joined)
 
-      pub making_ready : length places ≡ length families → length lengths ≡ length families
+      pub making_ready : length places' ≡ length families' → length lengths' ≡ length families'
           → Ready (kind_of k) n (take (length word - (i + 1)) (drop (i + 1) word)) s families' places' lengths'
           (take (size + 1) (set work size (get_or word i 0))) (length (take (size + 1) (set work size (get_or word i 0))) - 1)
       making_ready p l =
@@ -117,8 +111,8 @@ module _ {k n : ℕ} {word : List ℕ} (families places lengths work₀ : List �
                   sym (finish_steps kind n 0 families places lengths word) ∙ ap (λ (f : Finished). f.steps) all
                       ∙ finish_steps kind n s families' places' lengths' (lent ++ rest),
                 );
-            as_places = m.places_size ∙ p ∙ sym m.families_size;
-            as_lengths = m.lengths_size ∙ l ∙ sym m.families_size;
+            as_places = p;
+            as_lengths = l;
           }
 
       -- `after` is what the call leaves of what it was lent
@@ -126,10 +120,9 @@ module _ {k n : ℕ} {word : List ℕ} (families places lengths work₀ : List �
           → Inserted (kind_of k) n (take (length word - (i + 1)) (drop (i + 1) word)) s families' places' lengths'
           (take (size + 1) (set work size (get_or word i 0))) s'' families'' places'' lengths'' after size''
           → length after ≡ length (take (size + 1) (set work size (get_or word i 0)))
-          → length families'' ≡ length families' → length places'' ≡ length places' → length lengths'' ≡ length lengths'
           → Making (kind_of k) n word families places lengths work₀ (i + 1) s'' families'' places'' lengths''
           (after ++ drop (size + 1) (set work size (get_or word i 0))) size''
-      making_next {s''} {families''} {places''} {lengths''} {after} {size''} c q x y z =
+      making_next {s''} {families''} {places''} {lengths''} {after} {size''} c q =
           let v : List ℕ = drop (size + 1) (set work size letter) in
           let t : take size'' (after ++ v) ≡ take size'' after = take-append-le size'' after v (omega (arith, c.inside)) in
           record {
@@ -138,9 +131,6 @@ module _ {k n : ℕ} {word : List ℕ} (families places lengths work₀ : List �
             work_size =
                 length-append after v
                 ∙ omega (arith, lent_length, length-drop (size + 1) (set work size letter), length-set work size letter, m.work_size, making_room);
-            families_size = x ∙ m.families_size;
-            places_size = y ∙ m.places_size;
-            lengths_size = z ∙ m.lengths_size;
             normal = rw t c.normal;
             same = all ∙ c.same ∙ rw (t, rest_is);
           }

@@ -17,9 +17,9 @@ ending_rule-requires c =
       stays = c.requires.q_value;
     }
 
-pub returns-in_default : goal.returns-in_default
-returns-in_default c =
-    record { place_bound = omega arith; size_value = moved_ended (turn_none c.requires.ready _ c.ending_rule.ensures c.in_default.is) }
+pub returns-in_default-clause-size_value : goal.returns-in_default-clause-size_value
+returns-in_default-clause-size_value c =
+    moved_ended (turn_none c.requires.ready _ c.ending_rule.ensures c.in_default.is)
 
 pub overflow_sub-left : goal.overflow_sub-left
 overflow_sub-left c =
@@ -29,31 +29,34 @@ pub note-requires : goal.note-requires
 note-requires c =
     let a = c.requires.ready in
     let p = turn_place a _ c.ending_rule.ensures c.in-Some.is in
-    record { places_len = (a.as_places, a.as_lengths); place_bound = (omega (arith, p, ready_inside a, a.short), omega (arith, a.short)) }
+    record { few = omega (arith, a.room); place_bound = (omega (arith, p, ready_inside a, a.short), omega (arith, a.short)) }
 
 pub delete-requires : goal.delete-requires
 delete-requires c =
     turn_pair c.requires.ready _ c.ending_rule.ensures c.in-Some.is c.if-rule-eq1.true
 
-pub returns-then-rule-eq1 : goal.returns-then-rule-eq1
-returns-then-rule-eq1 c =
-    let d = turn_deleted c.requires.ready _ c.ending_rule.ensures c.in-Some.is _ c.if-rule-eq1.true
-    c.note.ensures.0 c.note.ensures.1 c.note.ensures.2 c.delete.ensures in
-    record { place_bound = omega arith; size_value = moved_ended d }
+pub returns-then-rule-eq1-clause-size_value : goal.returns-then-rule-eq1-clause-size_value
+returns-then-rule-eq1-clause-size_value c =
+    let n = c.note.ensures.noted in
+    rw n.0
+    (moved_ended (turn_deleted c.requires.ready _ c.ending_rule.ensures c.in-Some.is _ c.if-rule-eq1.true n.1 n.2 n.3 c.delete.ensures))
 
 pub note-requires-2 : goal.note-requires-2
 note-requires-2 c =
     let a = c.requires.ready in
     let p = turn_place a _ c.ending_rule.ensures c.in-Some.is in
-    record { places_len = (a.as_places, a.as_lengths); place_bound = (omega (arith, p, ready_inside a, a.short), omega (arith, a.short)) }
+    record { few = omega (arith, a.room); place_bound = (omega (arith, p, ready_inside a, a.short), omega (arith, a.short)) }
 
 pub carry-requires : goal.carry-requires
 carry-requires c =
     (omega (arith, turn_place c.requires.ready _ c.ending_rule.ensures c.in-Some.is), ready_inside c.requires.ready)
 
-pub returns : goal.returns
-returns c =
-    let p = turn_place c.requires.ready _ c.ending_rule.ensures c.in-Some.is in
-    let d = turn_carried c.requires.ready _ c.ending_rule.ensures c.in-Some.is c.if-rule-eq1.false
-    c.note-2.ensures.0 c.note-2.ensures.1 c.note-2.ensures.2 c.carry.ensures in
-    record { place_bound = omega (arith, p); size_value = moved_carried c.requires.ready d }
+pub returns-clause-place_bound : goal.returns-clause-place_bound
+returns-clause-place_bound c =
+    omega (arith, turn_place c.requires.ready _ c.ending_rule.ensures c.in-Some.is)
+
+pub returns-clause-size_value : goal.returns-clause-size_value
+returns-clause-size_value c =
+    let n = c.note-2.ensures.noted in
+    rw n.0
+    (moved_carried c.requires.ready (turn_carried c.requires.ready _ c.ending_rule.ensures c.in-Some.is c.if-rule-eq1.false n.1 n.2 n.3 c.carry.ensures))
