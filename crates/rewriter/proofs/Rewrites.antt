@@ -13,7 +13,6 @@ use lib.ListN.{length, take, drop, length-append, length-drop}
 use lib.Seq.{take-append_seam}
 use borrow.Author.Tests.{ne_eqb, lt-leb, le-leb}
 use Rattle.coxeter.specs.declared.Kind.{Kind}
-use Rattle.coxeter.specs.declared.Kind.TheVariants.{A, B, D}
 use Rattle.coxeter.specs.Kinds.{kind_of, least}
 use Rattle.coxeter.specs.Checks.{check, ◌then◌, rank_refusal, word_refusal}
 use Rattle.coxeter.specs.Calls.{front}
@@ -30,7 +29,6 @@ use Rattle.rules.proofs.Scan.{shown_rule, right_length, rule_at}
 use Rattle.rules.proofs.ScanFamilies.{ends_of_listed, shown_of_listed}
 use Rattle.rewriter.proofs.search.Searches.{shown, fitting_of, along_le}
 use Rattle.rewriter.proofs.writing.Words.{length_new}
-use Rattle.coxeter.proofs.Acceptance.{rank_accepted}
 use Rattle.coxeter.proofs.Refusals.{then_assoc, then_refused}
 use Rattle.coxeter.proofs.TestLaws.{impossible}
 
@@ -100,14 +98,6 @@ unfolding past_end
 rewrote_place {k} {n} {u} {p} {out} h l = rewrote_refused k n u p out 12 (rewrite_at_accepted single k n u p out h ∙ rw (le-leb (length u) p l))
 
 -- ---- an accepted word and a place in it
-
-least_positive : (k : Kind) → 1 ≤ least k
-least_positive A = omega arith
-least_positive B = omega arith
-least_positive D = omega arith
-
-pub rank_between : {k n : ℕ} {u : List ℕ} → AcceptedWord k n u → (1 ≤ n) × (n ≤ 64)
-rank_between {k} {n} h = omega (arith, least_positive (kind_of k), rank_accepted k n h.rank)
 
 module _ {k n : ℕ} {u : List ℕ} (p : ℕ) (out : List ℕ) (h : AcceptedWord k n u) (g : p < length u) where
   rewrite_at_placed : rewrite_at single k n u p out ≡ rewrite_by single (first_fitting (rules (kind_of k) n) u p) u p out

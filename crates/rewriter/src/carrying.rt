@@ -1,8 +1,7 @@
 // A letter read behind a normal form is carried to the left by rules, in place, and each step is noted in three
 // lists. Letters that commute are passed one by one; where none does, the rule that ends with the letter carries
 // it past a block, or deletes it with an equal one.
-ghost use Rattle.std.specs.Prelude.{◌≡◌, true, false, ◌∷◌, ◌++◌, ℕ, suc, ◌+◌, ◌-◌, ◌≤◌, ◌<◌, min, length, get_or, take, drop, set};
-ghost use Rattle.coxeter.specs.Kinds.{kind_of};
+ghost use Rattle.std.specs.Prelude.{◌≡◌, true, false, ◌∷◌, ◌++◌, ℕ, suc, ◌+◌, ◌-◌, ◌≤◌, ◌<◌, min, length, get_or, take, drop, set, MatchOption};
 ghost use Rattle.coxeter.specs.NormalForm.{levels};
 ghost use Rattle.coxeter.specs.Checks.{WordOf};
 ghost use Rattle.traces.proofs.TwoLetters.{commuting};
@@ -10,6 +9,7 @@ ghost use Rattle.traces.proofs.Tracing.{stores, Ready, Carried, Inserted};
 
 use crate::ending::ending_rule;
 use crate::search::levels_of;
+use window::Group;
 
 // The steps that were made, each noted by its family, its place and the length left, as far as the lists go.
 #[derive(Drop)]
@@ -81,17 +81,18 @@ fn commutes(rank: u8, levels: u8, l: u8, x: u8) -> bool
 }
 
 // The letter at q put before those that it commutes with, as far as it goes. Returns where it stands then.
-fn shift(rank: u8, levels: u8, word: &mut [u8], q: usize) -> usize
-    requires { (rank ≤ 64) × WordOf rank word.old × (q < length word.old) }
+fn shift(group: Group, word: &mut [u8], q: usize) -> usize
+    requires { WordOf group.rank word.old × (q < length word.old) }
     ensures { (result ≤ q) × (word.new ≡ take result word.old
         ++ ((get_or word.old q 0 ∷ take (q - result) (drop result word.old)) ++ drop (suc q) word.old))
-        × ((j : ℕ) → result ≤ j → j < q → commuting rank levels (get_or word.old j 0) (get_or word.old q 0) ≡ true)
-        × (1 ≤ result → commuting rank levels (get_or word.old (result - 1) 0) (get_or word.old q 0) ≡ false) }
+        × ((j : ℕ) → result ≤ j → j < q → commuting group.rank (levels group.kind group.rank) (get_or word.old j 0) (get_or word.old q 0) ≡ true)
+        × (1 ≤ result → commuting group.rank (levels group.kind group.rank) (get_or word.old (result - 1) 0) (get_or word.old q 0) ≡ false) }
 {
+    let levels = levels_of(group);
     let x = word[q];
     for t in (0..q).rev() {
         let l = word[t];
-        if !commutes(rank, levels, l, x) {
+        if !commutes(group.rank, levels, l, x) {
             word[t + 1] = x;
             return t + 1;
         }
@@ -102,18 +103,17 @@ fn shift(rank: u8, levels: u8, word: &mut [u8], q: usize) -> usize
 }
 
 // The letter at q passes letters by family 2, one step each, as far as it goes. Returns where it stands then.
-fn pass(kind: u8, rank: u8, rest: &[u8], steps: &mut Steps<'_>, word: &mut [u8], q: usize) -> usize
-    requires { Ready (kind_of kind) rank rest.now steps.old.made steps.old.families.now steps.old.places.now steps.old.lengths.now word.old q }
+fn pass(group: Group, rest: &[u8], steps: &mut Steps<'_>, word: &mut [u8], q: usize) -> usize
+    requires { Ready group.kind group.rank rest.now steps.old.made steps.old.families.now steps.old.places.now steps.old.lengths.now word.old q }
     ensures same_lists { (steps.new.families.ghost_name ≡ steps.old.families.ghost_name)
         × (steps.new.places.ghost_name ≡ steps.old.places.ghost_name)
         × (steps.new.lengths.ghost_name ≡ steps.old.lengths.ghost_name) }
-    ensures carried { (result ≤ q) × Carried (kind_of kind) rank rest.now steps.old.made steps.old.families.now steps.old.places.now steps.old.lengths.now
+    ensures carried { (result ≤ q) × Carried group.kind group.rank rest.now steps.old.made steps.old.families.now steps.old.places.now steps.old.lengths.now
         word.old steps.new.made steps.new.families.now steps.new.places.now steps.new.lengths.now word.new result
-        × (1 ≤ result → commuting rank (levels (kind_of kind) rank) (get_or word.new (result - 1) 0) (get_or word.new result 0) ≡ false) }
+        × (1 ≤ result → commuting group.rank (levels group.kind group.rank) (get_or word.new (result - 1) 0) (get_or word.new result 0) ≡ false) }
 {
-    let levels = levels_of(kind, rank);
     let left = word.len() + rest.len();
-    let t = shift(rank, levels, word, q);
+    let t = shift(group, word, q);
     steps.note_passed(q - t, q, left);
     t
 }
@@ -137,30 +137,30 @@ fn delete(word: &mut [u8], place: usize)
     word.copy_within(place + 2.., place);
 }
 
-// How many letters the word has, and where the letter stands that moves: 0 if it moves no further.
+// How many letters the word has, and where the letter stands that moves, unless it moves no further.
 #[derive(Clone, Copy)]
 struct Moved {
     size: usize,
-    place: usize,
+    place: Option<usize>,
 }
 
 // Applies the rule that ends at q, if there is one. The letter at q does not commute with the one before it.
-fn turn(kind: u8, rank: u8, rest: &[u8], steps: &mut Steps<'_>, word: &mut [u8], q: usize) -> Moved
-    requires ready { Ready (kind_of kind) rank rest.now steps.old.made steps.old.families.now steps.old.places.now steps.old.lengths.now word.old q }
-    requires q_value { 1 ≤ q → commuting rank (levels (kind_of kind) rank) (get_or word.old (q - 1) 0) (get_or word.old q 0) ≡ false }
+fn turn(group: Group, rest: &[u8], steps: &mut Steps<'_>, word: &mut [u8], q: usize) -> Moved
+    requires ready { Ready group.kind group.rank rest.now steps.old.made steps.old.families.now steps.old.places.now steps.old.lengths.now word.old q }
+    requires q_value { 1 ≤ q → commuting group.rank (levels group.kind group.rank) (get_or word.old (q - 1) 0) (get_or word.old q 0) ≡ false }
     ensures same_lists { (steps.new.families.ghost_name ≡ steps.old.families.ghost_name)
         × (steps.new.places.ghost_name ≡ steps.old.places.ghost_name)
         × (steps.new.lengths.ghost_name ≡ steps.old.lengths.ghost_name) }
-    ensures place_bound { result.place ≤ q - 1 }
-    ensures size_value { (1 ≤ result.place → (result.size ≡ length word.old)
-        × Carried (kind_of kind) rank rest.now steps.old.made steps.old.families.now steps.old.places.now steps.old.lengths.now word.old
-        steps.new.made steps.new.families.now steps.new.places.now steps.new.lengths.now word.new result.place)
-        × (result.place ≤ 0 → Inserted (kind_of kind) rank rest.now steps.old.made steps.old.families.now steps.old.places.now steps.old.lengths.now
-        word.old steps.new.made steps.new.families.now steps.new.places.now steps.new.lengths.now word.new result.size) }
+    ensures moved { MatchOption result.place
+        (Inserted group.kind group.rank rest.now steps.old.made steps.old.families.now steps.old.places.now steps.old.lengths.now
+        word.old steps.new.made steps.new.families.now steps.new.places.now steps.new.lengths.now word.new result.size)
+        (λ p. (p < q) × (result.size ≡ length word.old)
+        × Carried group.kind group.rank rest.now steps.old.made steps.old.families.now steps.old.places.now steps.old.lengths.now word.old
+        steps.new.made steps.new.families.now steps.new.places.now steps.new.lengths.now word.new p) }
 {
     let size = word.len();
-    let Some(rule) = ending_rule(kind, rank, word, q) else {
-        return Moved { size, place: 0 };
+    let Some(rule) = ending_rule(group, word, q) else {
+        return Moved { size, place: None };
     };
     let place = rule.place;
     if rule.family == 1 {
@@ -169,37 +169,34 @@ fn turn(kind: u8, rank: u8, rest: &[u8], steps: &mut Steps<'_>, word: &mut [u8],
         delete(word, place);
         return Moved {
             size: left,
-            place: 0,
+            place: None,
         };
     }
     steps.note(rule.family, place, size + rest.len());
     carry(word, place, q, rule.first);
-    Moved { size, place }
+    Moved {
+        size,
+        place: Some(place),
+    }
 }
 
 // The last letter of `word` is carried to where no rule ends with it, or deleted; `rest` follows the word. Returns how
 // many letters the word has then.
-pub(crate) fn insert(
-    kind: u8,
-    rank: u8,
-    rest: &[u8],
-    steps: &mut Steps<'_>,
-    word: &mut [u8],
-) -> usize
-    requires { Ready (kind_of kind) rank rest.now steps.old.made steps.old.families.now steps.old.places.now steps.old.lengths.now word.old (length word.old - 1) }
+pub(crate) fn insert(group: Group, rest: &[u8], steps: &mut Steps<'_>, word: &mut [u8]) -> usize
+    requires { Ready group.kind group.rank rest.now steps.old.made steps.old.families.now steps.old.places.now steps.old.lengths.now word.old (length word.old - 1) }
     ensures same_lists { (steps.new.families.ghost_name ≡ steps.old.families.ghost_name)
         × (steps.new.places.ghost_name ≡ steps.old.places.ghost_name)
         × (steps.new.lengths.ghost_name ≡ steps.old.lengths.ghost_name) }
-    ensures inserted { Inserted (kind_of kind) rank rest.now steps.old.made steps.old.families.now steps.old.places.now steps.old.lengths.now
+    ensures inserted { Inserted group.kind group.rank rest.now steps.old.made steps.old.families.now steps.old.places.now steps.old.lengths.now
         word.old steps.new.made steps.new.families.now steps.new.places.now steps.new.lengths.now word.new result }
 {
     let mut size = word.len();
-    let mut q = size - 1;
-    while 0 < q {
-        let at = pass(kind, rank, rest, steps, word, q);
-        let made = turn(kind, rank, rest, steps, word, at);
+    let mut place = Some(size - 1);
+    while let Some(q) = place {
+        let at = pass(group, rest, steps, word, q);
+        let made = turn(group, rest, steps, word, at);
         size = made.size;
-        q = made.place;
+        place = made.place;
     }
     size
 }

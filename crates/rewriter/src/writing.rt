@@ -7,6 +7,7 @@ ghost use Rattle.rules.proofs.Scan.{first_letter, shown_rule, right_length};
 ghost use Rattle.coxeter.specs.Calls.{front};
 
 use crate::search::Fitting;
+use window::Word;
 
 // `part` written to `out` from `at` on.
 pub(crate) fn copy(part: &[u8], out: &mut [u8], at: usize)
@@ -71,17 +72,18 @@ fn write_moved(word: &[u8], place: usize, left: usize, first: u8, out: &mut [u8]
 }
 
 // The word that the rule leaves at the place where it fits.
-pub(crate) fn write_rewritten(rank: u8, rule: Fitting, word: &[u8], place: usize, out: &mut [u8])
-    requires le_rank { (1 ≤ rank) × (rule.i < 255) }
-    requires le_left { (1 ≤ rule.left) × (place + rule.left ≤ length word.now) }
-    requires left_in_bounds { length word.now - rule.left + right_length rule.family rule.left ≤ length out.old }
+pub(crate) fn write_rewritten(word: Word<'_>, rule: Fitting, place: usize, out: &mut [u8])
+    requires i_bound { rule.i < 255 }
+    requires le_left { (1 ≤ rule.left) × (place + rule.left ≤ length word.letters.now) }
+    requires left_in_bounds { length word.letters.now - rule.left + right_length rule.family rule.left ≤ length out.old }
     ensures { out.new ≡
-        front (rewritten (shown_rule rank rule.family rule.i rule.j (take rule.left (drop place word.now))) word.now place) out.old }
+        front (rewritten (shown_rule word.entry.group.rank rule.family rule.i rule.j (take rule.left (drop place word.entry.letters.now))) word.entry.letters.now place) out.old }
 {
+    let letters = word.letters;
     if rule.family == 1 {
-        write_without(word, place, rule.left, out);
+        write_without(letters, place, rule.left, out);
         return;
     }
-    let first = first_letter(rank, rule.family, rule.i, rule.j);
-    write_moved(word, place, rule.left, first, out);
+    let first = first_letter(word.group.rank, rule.family, rule.i, rule.j);
+    write_moved(letters, place, rule.left, first, out);
 }

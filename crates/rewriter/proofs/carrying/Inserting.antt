@@ -16,9 +16,9 @@ use Rattle.traces.proofs.Reading.{reading_lower}
 use Rattle.traces.proofs.ReadingSteps.{after_moved, after_dropped}
 use Rattle.traces.proofs.Tracing.{Ready, Carried, Inserted}
 use Rattle.rewriter.specs.declared.ending.Ending.{Ending}
-use Rattle.std.specs.Prelude.{Option as Maybe, Some, None}
+use Rattle.std.specs.Prelude.{Option as Maybe, Some, None, MatchOption}
 use Rattle.rewriter.proofs.carrying.Shifting.{put}
-use Rattle.rewriter.proofs.carrying.CarriedSteps.{Noted, noted, carried_ready, carried_trans, carried_step, inserted_step, inserted_end, inserted_after}
+use Rattle.rewriter.proofs.carrying.CarriedSteps.{Noted, noted, carried_trans, carried_step, inserted_step, inserted_end, inserted_after}
 use Rattle.rewriter.proofs.carrying.Passing.{ready_inside}
 use Rattle.rewriter.proofs.ending.Ends.{told, ending_of}
 
@@ -56,14 +56,6 @@ module _ {k : Kind} {n : ℕ} {rest : List ℕ} {s : ℕ} {families places lengt
   pub turn_none : (m : Maybe Ending) → m ≡ ending_of (lowest_redex k n (take (suc q) word)) → m ≡ None
       → Inserted k n rest s families places lengths word s families places lengths word (length word)
   turn_none m e z = inserted_end a (not_found _ m e z) (length word) refl
-
-  -- the letter stands at the word's front
-  turn_front : q ≤ 0 → Inserted k n rest s families places lengths word s families places lengths word (length word)
-  turn_front l = inserted_end a (nowhere (lowest_redex k n (take (suc q) word)) refl) (length word) refl
-    where
-      nowhere : (o : Option Redex) → lowest_redex k n (take (suc q) word) ≡ o → o ≡ none
-      nowhere none e = refl
-      nowhere (some u) e = absurd (omega (arith, reading_lower k n a.rank word q a.reading u e))
 
   module _ (r : Ending) {m : Maybe Ending} (e : m ≡ ending_of (lowest_redex k n (take (suc q) word))) (z : m ≡ Some r) where
     have : StepFound (lowest_redex k n (take (suc q) word)) r
@@ -105,33 +97,31 @@ module _ {k : Kind} {n : ℕ} {rest : List ℕ} {s : ℕ} {families places lengt
 
 -- ---- turn after turn
 
--- from what a has to what b has: the letter stands at place q of a word that is as long as before, or else q is 0
--- and a normal form of `size` letters stands
-abbrev pub Moved : Kind → ℕ → List ℕ → Noted → Noted → ℕ → ℕ → Type 0
-Moved k n rest a b size q =
-    (1 ≤ q → (size ≡ length a.word)
-    × Carried k n rest a.steps a.families a.places a.lengths a.word b.steps b.families b.places b.lengths b.word q)
-    × (q ≤ 0
-    → Inserted k n rest a.steps a.families a.places a.lengths a.word b.steps b.families b.places b.lengths b.word size)
+-- from what a has to what b has: the letter stands at a place of a word that is as long as before, or else a normal
+-- form of `size` letters stands
+abbrev pub Moved : Kind → ℕ → List ℕ → Noted → Noted → ℕ → Maybe ℕ → Type 0
+Moved k n rest a b size o =
+    MatchOption o (Inserted k n rest a.steps a.families a.places a.lengths a.word b.steps b.families b.places b.lengths b.word size)
+    (λ q. (size ≡ length a.word) × Carried k n rest a.steps a.families a.places a.lengths a.word b.steps b.families b.places b.lengths b.word q)
 
-module _ {k : Kind} {n : ℕ} {rest : List ℕ} {s : ℕ} {families places lengths word : List ℕ} where
-  module _ {s' : ℕ} {families' places' lengths' word' : List ℕ} where
-    pub moved_ended : {size : ℕ} → Inserted k n rest s families places lengths word s' families' places' lengths' word' size
-        → Moved k n rest (noted s families places lengths word) (noted s' families' places' lengths' word') size 0
-    moved_ended d = (λ h. absurd (omega arith), λ h. d)
+-- the letter has passed others, and then makes a turn, which moves it to a place before p, if to any
+pub moved_again : {k : Kind} {n : ℕ} {rest : List ℕ} {s : ℕ} {families places lengths word : List ℕ}
+    {s' : ℕ} {families' places' lengths' word' : List ℕ} {q : ℕ}
+    → Carried k n rest s families places lengths word s' families' places' lengths' word' q → {s'' : ℕ} {families'' places'' lengths'' word'' : List ℕ} {p : ℕ}
+    → Carried k n rest s' families' places' lengths' word' s'' families'' places'' lengths'' word'' p
+    → (s''' : ℕ) (families''' places''' lengths''' word''' : List ℕ) (size : ℕ) (o : Maybe ℕ)
+    → MatchOption o (Inserted k n rest s'' families'' places'' lengths'' word'' s''' families''' places''' lengths''' word''' size)
+    (λ r. (r < p) × (size ≡ length word'') × Carried k n rest s'' families'' places'' lengths'' word'' s''' families''' places''' lengths''' word''' r)
+    → Moved k n rest (noted s families places lengths word) (noted s''' families''' places''' lengths''' word''') size o
+moved_again a c s''' families''' places''' lengths''' word''' size None d = inserted_after (carried_trans a c) d
+moved_again a c s''' families''' places''' lengths''' word''' size (Some r) d = let b = carried_trans a c in (d.1 ∙ b.size, carried_trans b d.2)
 
-    pub moved_carried : {t q : ℕ} → Ready k n rest s families places lengths word t
-        → Carried k n rest s families places lengths word s' families' places' lengths' word' q
-        → Moved k n rest (noted s families places lengths word) (noted s' families' places' lengths' word') (length word) q
-    moved_carried a b = (λ h. (refl, b), λ h. inserted_after b (rw (← b.size) (turn_front (carried_ready b a) h)))
+-- how many places are left for the letter that moves
+abbrev pub reach : Maybe ℕ → ℕ
+reach None = 0
+reach (Some q) = suc q
 
-    -- the letter passes others from place q to p, and then makes a turn
-    pub moved_again : {size q : ℕ} → Moved k n rest (noted s families places lengths word) (noted s' families' places' lengths' word') size q → 1 ≤ q
-        → {s'' : ℕ} {families'' places'' lengths'' word'' : List ℕ} {p : ℕ}
-        → Carried k n rest s' families' places' lengths' word' s'' families'' places'' lengths'' word'' p
-        → {s''' : ℕ} {families''' places''' lengths''' word''' : List ℕ} {size''' q''' : ℕ}
-        → Moved k n rest (noted s'' families'' places'' lengths'' word'') (noted s''' families''' places''' lengths''' word''') size''' q'''
-        → Moved k n rest (noted s families places lengths word) (noted s''' families''' places''' lengths''' word''') size''' q'''
-    moved_again a o c d =
-        let b = carried_trans (a.0 o).1 c in
-        (λ h. ((d.0 h).0 ∙ b.size, carried_trans b (d.0 h).1), λ h. inserted_after b (d.1 h))
+-- they are fewer after a turn
+pub turn_smaller : (o : Maybe ℕ) (P : Type 0) (Q R : ℕ → Type 0) {p q : ℕ} → MatchOption o P (λ r. (r < p) × Q r × R r) → p ≤ q → reach o < suc q
+turn_smaller None P Q R m l = omega arith
+turn_smaller (Some r) P Q R m l = omega (arith, m.0)

@@ -195,8 +195,7 @@ module _ {k : Kind} {n : ℕ} (h : least k ≤ n) {w : List ℕ} {q : ℕ} (r : 
       where
         stays : (s ≡ 0 → ⊥) → rule_told s f ≡ ending_of (lowest_redex k n (take (suc q) w))
         stays z =
-            let v = searching_next k n (take (q + 1) w) searchable refl refl searching long_enough
-            (rw last_letter x) z in
+            let v = searching_next k n (take (q + 1) w) searchable searching long_enough (rw last_letter x) z in
             let u = searching_end k n (take (q + 1) w) searchable p i s (q + 1) v (rw (upto_one q w, length-take-le (suc q) w end_inside) (omega arith)) in
             rw (ne_eqb s 0 z) (ending_none k n h w q r o p b d t refl (sym u))
 
@@ -204,8 +203,7 @@ module _ {k : Kind} {n : ℕ} (h : least k ≤ n) {w : List ℕ} {q : ℕ} (r : 
         leaves z =
             let v =
             rw last_letter at
-            (searching_found k n (take (q + 1) w) searchable {f = f} refl refl refl searching
-            long_enough (rw last_letter x) z (rw last_letter y)) in
+            (searching_found k n (take (q + 1) w) searchable searching long_enough {f = f} (rw last_letter (sym x ∙ z)) (rw last_letter (sym y))) in
             elim (ℕ_discrete f 0) [
               | yes g ↦ rw (eq-eqb s 0 z, eq-eqb f 0 g) (ending_none k n h w q r o p b d t refl (v ∙ rw (eq-eqb f 0 g)))
               | no g ↦

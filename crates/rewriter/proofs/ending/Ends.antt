@@ -15,7 +15,7 @@ use native.Mathlib.Decide.{dec_le, ℕ_discrete}
 use native.Mathlib.Omega.{arith}
 use lib.Dec.{eqb}
 use lib.ListN.{length, get_or, take, drop, length-take}
-use borrow.Author.Tests.{eq-eqb, ne_eqb}
+use borrow.Author.Tests.{ne_eqb, lt-ltb, le-ltb}
 use Rattle.coxeter.specs.declared.Kind.{Kind}
 use Rattle.coxeter.specs.Kinds.{pick, least}
 use Rattle.coxeter.specs.NormalForm.{levels, last_index}
@@ -67,12 +67,15 @@ Begun w n q p =
     (p ≤ q) × (get_or w (q - 1) 0 < get_or w q 0 → Stopped w (suc q - 2 * n) (q - 1) (get_or w (q - 1) 0) p)
     × (get_or w q 0 ≤ get_or w (q - 1) 0 → Stopped w (suc q - 2 * n) q (get_or w q 0) p)
 
-module _ (w : List ℕ) (n q : ℕ) {l x floor : ℕ} (p : ℕ) (e : floor ≡ suc q - 2 * n) (f : l ≡ get_or w (q - 1) 0) (g : x ≡ get_or w q 0) where
+module _ (w : List ℕ) (n q : ℕ) {l x floor : ℕ} (p : ℕ) (e : floor ≡ q + 1 - 2 * n) (f : l ≡ get_or w (q - 1) 0) (g : x ≡ get_or w q 0) where
+  floor_is : floor ≡ suc q - 2 * n
+  floor_is = omega (arith, e)
+
   pub begun_rising : l < x → Stopped w floor (q - 1) l p → Begun w n q p
-  begun_rising h s = (omega (arith, s.inside), λ a. rw (← e, ← f) s, λ a. absurd (omega arith))
+  begun_rising h s = (omega (arith, s.inside), λ a. rw (← floor_is, ← f) s, λ a. absurd (omega arith))
 
   pub begun_falling : x ≤ l → Stopped w floor q x p → Begun w n q p
-  begun_falling h s = (s.inside, λ a. absurd (omega arith), λ a. rw (← e, ← g) s)
+  begun_falling h s = (s.inside, λ a. absurd (omega arith), λ a. rw (← floor_is, ← g) s)
 
 -- ---- the rule
 
@@ -88,27 +91,28 @@ block_ending k n p i j x =
     (pick (eqb f 0) None (Some (told f p (first_letter n f i (shown_index f j x)))))
     None
 
--- from what its tests compute
-module _ (k : Kind) (n p i j x : ℕ) {c m s : ℕ} (a : c ≡ levels k n) (b : m ≡ last_index k n i) (e : s ≡ next_index n c m j x) where
-  goes_to : next_index n (levels k n) (last_index k n i) j x ≡ s
-  goes_to = rw (← a, ← b) (sym e)
+module _ (k : Kind) (n p i j x : ℕ) where
+  pub block_goes_on : (next_index n (levels k n) (last_index k n i) j x ≡ 0 → ⊥) → None ≡ block_ending k n p i j x
+  block_goes_on z = rw (ne_eqb (next_index n (levels k n) (last_index k n i) j x) 0 z)
 
-  pub block_goes_on : (s ≡ 0 → ⊥) → None ≡ block_ending k n p i j x
-  block_goes_on z = rw (goes_to, ne_eqb s 0 z)
+  module _ (z : next_index n (levels k n) (last_index k n i) j x ≡ 0) where
+    pub block_no_rule : family_at n (fork k n) i j x ≡ 0 → None ≡ block_ending k n p i j x
+    block_no_rule y = rw (z, y)
 
-  module _ {d f : ℕ} (z : s ≡ 0) (t : d ≡ fork k n) (g : f ≡ family_at n d i j x) where
-    family_is : family_at n (fork k n) i j x ≡ f
-    family_is = rw (← t) (sym g)
-
-    pub block_no_rule : f ≡ 0 → None ≡ block_ending k n p i j x
-    block_no_rule y = rw (goes_to, eq-eqb s 0 z, family_is, eq-eqb f 0 y)
-
-    pub block_has_rule : {v y : ℕ} → (f ≡ 0 → ⊥) → v ≡ shown_index f j x → y ≡ first_letter n f i v → Some (told f p y) ≡ block_ending k n p i j x
-    block_has_rule o q r = rw (goes_to, eq-eqb s 0 z, family_is, ne_eqb f 0 o, r, q)
+    pub block_has_rule : {f v y : ℕ} → f ≡ family_at n (fork k n) i j x → (f ≡ 0 → ⊥) → v ≡ shown_index f j x → y ≡ first_letter n f i v
+        → Some (told f p y) ≡ block_ending k n p i j x
+    block_has_rule {f} g o q r = rw (z, ← g, ne_eqb f 0 o, r, q)
 
 -- the rule at the lowest place, as the search hands it on
 abbrev pub ending_of : Option Redex → Maybe Ending
 ending_of o = elim o [ none ↦ None | some s ↦ Some (told s.rule.family s.place (get_or s.rule.right 0 0)) ]
+
+-- the lower of two letters, as the library's method has it
+pub min_lower : (l x : ℕ) → min l x ≡ lower l x
+min_lower l x = elim (dec_le l x) [
+  | yes h ↦ rw (le-ltb x l h) (omega arith)
+  | no h ↦ rw (lt-ltb x l (lt_of_not-le h)) (omega arith)
+]
 
 -- the letter is not the first
 pub one : {q : ℕ} → (q ≡ 0 → ⊥) → 1 ≤ q

@@ -1,9 +1,10 @@
 -- `carrying::turn` looks for the rule that ends with the letter, notes it and makes the step; the laws of Inserting
 -- say what each way out leaves.
 -- Assumes nothing.
+use mathlib.Core.Path.{refl}
 use native.Mathlib.Omega.{arith}
 use Rattle.rewriter.proofs.carrying.Passing.{ready_inside}
-use Rattle.rewriter.proofs.carrying.Inserting.{turn_none, turn_place, turn_pair, turn_deleted, turn_carried, moved_ended, moved_carried}
+use Rattle.rewriter.proofs.carrying.Inserting.{turn_none, turn_place, turn_pair, turn_deleted, turn_carried}
 use Rattle.rewriter.proofs.carrying.turn.Goals as goal
 
 pub ending_rule-requires : goal.ending_rule-requires
@@ -17,9 +18,9 @@ ending_rule-requires c =
       stays = c.requires.q_value;
     }
 
-pub returns-in_default-clause-size_value : goal.returns-in_default-clause-size_value
-returns-in_default-clause-size_value c =
-    moved_ended (turn_none c.requires.ready _ c.ending_rule.ensures c.in_default.is)
+pub returns-in_default-clause-moved : goal.returns-in_default-clause-moved
+returns-in_default-clause-moved c =
+    turn_none c.requires.ready _ c.ending_rule.ensures c.in_default.is
 
 pub overflow_sub-left : goal.overflow_sub-left
 overflow_sub-left c =
@@ -35,11 +36,11 @@ pub delete-requires : goal.delete-requires
 delete-requires c =
     turn_pair c.requires.ready _ c.ending_rule.ensures c.in-Some.is c.if-rule-eq1.true
 
-pub returns-then-rule-eq1-clause-size_value : goal.returns-then-rule-eq1-clause-size_value
-returns-then-rule-eq1-clause-size_value c =
+pub returns-then-rule-eq1-clause-moved : goal.returns-then-rule-eq1-clause-moved
+returns-then-rule-eq1-clause-moved c =
     let n = c.note.ensures.noted in
     rw n.0
-    (moved_ended (turn_deleted c.requires.ready _ c.ending_rule.ensures c.in-Some.is _ c.if-rule-eq1.true n.1 n.2 n.3 c.delete.ensures))
+    (turn_deleted c.requires.ready _ c.ending_rule.ensures c.in-Some.is _ c.if-rule-eq1.true n.1 n.2 n.3 c.delete.ensures)
 
 pub note-requires-2 : goal.note-requires-2
 note-requires-2 c =
@@ -51,12 +52,8 @@ pub carry-requires : goal.carry-requires
 carry-requires c =
     (omega (arith, turn_place c.requires.ready _ c.ending_rule.ensures c.in-Some.is), ready_inside c.requires.ready)
 
-pub returns-clause-place_bound : goal.returns-clause-place_bound
-returns-clause-place_bound c =
-    omega (arith, turn_place c.requires.ready _ c.ending_rule.ensures c.in-Some.is)
-
-pub returns-clause-size_value : goal.returns-clause-size_value
-returns-clause-size_value c =
+pub returns-clause-moved : goal.returns-clause-moved
+returns-clause-moved c =
     let n = c.note-2.ensures.noted in
-    rw n.0
-    (moved_carried c.requires.ready (turn_carried c.requires.ready _ c.ending_rule.ensures c.in-Some.is c.if-rule-eq1.false n.1 n.2 n.3 c.carry.ensures))
+    let d = turn_carried c.requires.ready _ c.ending_rule.ensures c.in-Some.is c.if-rule-eq1.false n.1 n.2 n.3 c.carry.ensures in
+    (turn_place c.requires.ready _ c.ending_rule.ensures c.in-Some.is, refl, rw n.0 d)

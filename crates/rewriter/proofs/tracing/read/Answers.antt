@@ -6,36 +6,36 @@ use Rattle.rewriter.proofs.tracing.Making.{making_start, making_room, lent_lengt
 use Rattle.rewriter.proofs.tracing.read.Goals as goal
 
 pub loop-i-init : goal.loop-i-init
-loop-i-init c = rw c.requires.none_made (making_start _ _ _ _ c.requires.accepted_word, refl, refl, refl)
+loop-i-init c = rw c.requires.none_made (making_start c.args.word _ _ _ _, refl, refl, refl)
 
 pub bounds-work-size : goal.bounds-work-size
 bounds-work-size c =
-    (making_room _ _ _ _ c.requires.accepted_word c.loop-i.invariant.0 c.loop-i-test.true c.requires.word_in_bounds).0
+    (making_room c.args.word _ _ _ _ c.loop-i.invariant.0 c.loop-i-test.true c.requires.word_in_bounds).0
 
 pub overflow_add-size : goal.overflow_add-size
 overflow_add-size c =
-    let r = making_room _ _ _ _ c.requires.accepted_word c.loop-i.invariant.0 c.loop-i-test.true c.requires.word_in_bounds in
+    let r = making_room c.args.word _ _ _ _ c.loop-i.invariant.0 c.loop-i-test.true c.requires.word_in_bounds in
     omega (arith, r)
 
 pub slice_bounds-insert-end-in-loop-i : goal.slice_bounds-insert-end-in-loop-i
 slice_bounds-insert-end-in-loop-i c =
-    let r = making_room _ _ _ _ c.requires.accepted_word c.loop-i.invariant.0 c.loop-i-test.true c.requires.word_in_bounds in
+    let r = making_room c.args.word _ _ _ _ c.loop-i.invariant.0 c.loop-i-test.true c.requires.word_in_bounds in
     simp length-set r.1
 
 pub slice_bounds-insert-end-in-loop-i-2 : goal.slice_bounds-insert-end-in-loop-i-2
 slice_bounds-insert-end-in-loop-i-2 c =
-    sym (lent_length _ _ _ _ c.requires.accepted_word c.loop-i.invariant.0 c.loop-i-test.true c.requires.word_in_bounds)
+    sym (lent_length c.args.word _ _ _ _ c.loop-i.invariant.0 c.loop-i-test.true c.requires.word_in_bounds)
 
 pub insert-size-requires : goal.insert-size-requires
 insert-size-requires c =
-    making_ready _ _ _ _ c.requires.accepted_word c.loop-i.invariant.0 c.loop-i-test.true c.requires.word_in_bounds
+    making_ready c.args.word _ _ _ _ c.loop-i.invariant.0 c.loop-i-test.true c.requires.word_in_bounds
     c.loop-i.steps.equally_long.0 c.loop-i.steps.equally_long.1
 
 pub loop-i-preserved : goal.loop-i-preserved
 loop-i-preserved c =
     let i = c.loop-i.invariant in
     let n = c.insert-size.ensures.same_lists in (
-      making_next _ _ _ _ c.requires.accepted_word i.0 c.loop-i-test.true c.requires.word_in_bounds
+      making_next c.args.word _ _ _ _ i.0 c.loop-i-test.true c.requires.word_in_bounds
           c.insert-size.ensures.inserted c.insert-size.auto.word,
       n.0 ∙ i.1,
       n.1 ∙ i.2,
@@ -51,5 +51,5 @@ returns c =
     let i = c.loop-i.invariant in
     record {
       same_lists = (i.1, i.2, i.3);
-      made = making_end _ _ _ _ c.requires.accepted_word i.0 c.loop-i-test.false c.requires.word_in_bounds;
+      made = making_end c.args.word _ _ _ _ i.0 c.loop-i-test.false c.requires.word_in_bounds;
     }

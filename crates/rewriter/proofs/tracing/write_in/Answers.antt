@@ -23,7 +23,7 @@ pub make-made-requires : goal.make-made-requires
 make-made-requires g c =
     let r = c.requires.steps_in_bounds in
     let f = sym (length-take-le _ _ r.0) in
-    record { accepted_word = c.requires.accepted_word; places_len = (length-take-le _ _ r.1 ∙ f, length-take-le _ _ r.2 ∙ f); word_in_bounds = simp length-replicate c.requires.word_in_bounds_2.0 }
+    record { places_len = (length-take-le _ _ r.1 ∙ f, length-take-le _ _ r.2 ∙ f); word_in_bounds = simp length-replicate c.requires.word_in_bounds_2.0 }
 
 pub shared_whole_as_front-copy : goal.shared_whole_as_front-copy
 shared_whole_as_front-copy g c =
