@@ -67,6 +67,7 @@ impl Steps<'_> {
 }
 
 // Whether l x is a left side of family 2: l < x, and the two commute. At step `levels` the way of a block turns.
+#[tactic(auto, unfolding(traces::proofs::TwoLetters::commuting))]
 fn commutes(rank: u8, levels: u8, l: u8, x: u8) -> bool
     requires { l < 255 }
     ensures { result ≡ commuting rank levels l x }

@@ -18,6 +18,7 @@ pub(crate) fn copy(part: &[u8], out: &mut [u8], at: usize)
 }
 
 // The length of the word that the rule leaves of one of `size` letters: without its left side, with its right side.
+#[tactic(auto, unfolding(rules::proofs::Scan::right_length))]
 pub(crate) fn new_length(rule: Fitting, size: usize) -> usize
     requires { rule.left ≤ size }
     ensures { result ≡ size - rule.left + right_length rule.family rule.left }
@@ -40,6 +41,7 @@ fn write_without(word: &[u8], place: usize, left: usize, out: &mut [u8])
 }
 
 // The letter that the right side of families 2 to 7 puts first.
+#[tactic(auto, unfolding(rules::proofs::Scan::first_letter))]
 pub(crate) fn first_letter(rank: u8, family: u8, i: u8, j: u8) -> u8
     requires { (1 ≤ rank) × (i < 255) }
     ensures { result ≡ first_letter rank family i j }

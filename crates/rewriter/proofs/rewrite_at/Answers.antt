@@ -34,10 +34,15 @@ returns-then-out-length c =
     let handed = fitted (accepted_least passed) inside (rw (e.word.0, e.word.1, e.word.2) at c.fitting_rule.ensures) c.in-Some.is in
     rw c.number-then-out-length.ensures (rewrote_short _ _ passed inside handed (rw e.word.2 at c.new_length-length.ensures) c.if-out-length.true)
 
-pub write_rewritten-requires : goal.write_rewritten-requires
-write_rewritten-requires c =
+pub write_rewritten-requires-clause-i_bound : goal.write_rewritten-requires-clause-i_bound
+write_rewritten-requires-clause-i_bound c =
     let w = fitted c.in-Ok.word.group.in_range.0 c.if-size-place.false c.fitting_rule.ensures c.in-Some.is in
-    record { i_bound = omega (arith, w.low, rank_le _ _ c.in-Ok.word.group.in_range); le_left = (w.nonempty, w.inside); left_in_bounds = rw c.new_length-length.ensures at c.if-out-length.false }
+    omega (arith, w.low, rank_le _ _ c.in-Ok.word.group.in_range)
+
+pub write_rewritten-requires-clause-le_left : goal.write_rewritten-requires-clause-le_left
+write_rewritten-requires-clause-le_left c =
+    let w = fitted c.in-Ok.word.group.in_range.0 c.if-size-place.false c.fitting_rule.ensures c.in-Some.is in
+    (w.nonempty, w.inside)
 
 pub returns : goal.returns
 returns c =

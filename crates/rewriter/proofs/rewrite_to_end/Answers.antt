@@ -30,14 +30,6 @@ returns-then-out-counted c =
     let n = rw (checked_trace c.in_ok-word.word _ _ _ e.word) at c.count-counted.ensures in
     out_short _ _ _ _ _ _ _ e.refusal n.0 c.if-families-steps.false c.if-places-steps.false c.if-lengths-steps.false n.1 c.if-out-counted.true
 
-pub write_trace-requires : goal.write_trace-requires
-write_trace-requires c =
-    record {
-      steps_value = c.count-counted.ensures.0;
-      steps_in_bounds = (c.if-families-steps.false, c.if-places-steps.false, c.if-lengths-steps.false);
-      word_in_bounds = rw c.count-counted.ensures.1 at c.if-out-counted.false;
-    }
-
 pub returns : goal.returns
 returns c =
     let e = c.in_ok-word.ensures in

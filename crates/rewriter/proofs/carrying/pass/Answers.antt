@@ -1,18 +1,12 @@
 -- `carrying::pass` carries a letter to the left by family 2: the letters are moved first, then the steps noted.
 -- Assumes nothing.
 use mathlib.Core.Path.{refl}
-use native.Mathlib.Omega.{arith}
 use Rattle.rewriter.proofs.carrying.Passing.{ready_inside, ready_word, passed}
 use Rattle.rewriter.proofs.carrying.pass.Goals as goal
 
 pub shift-t-requires : goal.shift-t-requires
 shift-t-requires c =
     (ready_word c.requires, ready_inside c.requires)
-
-pub note_passed-requires : goal.note_passed-requires
-note_passed-requires c =
-    let short = c.requires.short in
-    record { few = omega (arith, c.requires.room); m_le_q = (omega arith, omega (arith, ready_inside c.requires), omega arith) }
 
 pub returns-clause-carried : goal.returns-clause-carried
 returns-clause-carried c =

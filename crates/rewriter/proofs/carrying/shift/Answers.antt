@@ -33,9 +33,6 @@ loop-t-preserved c =
       commute = commutes_from_next _ _ c.args.word.now _ _ c.loop-t.t read (rw c.levels_of-levels.ensures at c.commutes.ensures) c.if-not-commutes.false i.commute;
     }
 
-pub shape_of-word : goal.shape_of-word
-shape_of-word c = simp length-set c.loop-t.invariant.same_size
-
 pub returns-then-not-commutes : goal.returns-then-not-commutes
 returns-then-not-commutes c =
     let i = c.loop-t.invariant in
@@ -46,9 +43,3 @@ returns-then-not-commutes c =
       i.commute,
       λ o. rw (← put_read _ _ _ c.requires.1 _ _ (omega arith) i.place_le i.moved) (sym (rw c.levels_of-levels.ensures at c.commutes.ensures) ∙ c.if-not-commutes.true),
     )
-
-pub returns : goal.returns
-returns c =
-    let all : c.loop-t.t ≡ 0 = omega arith in
-    let i = rw all at c.loop-t.invariant in
-    (i.place_le, put_set _ _ _ c.requires.1 _ _ i.place_le i.moved, i.commute, λ o. absurd (omega arith))

@@ -7,17 +7,6 @@ use Rattle.rewriter.proofs.carrying.Passing.{ready_inside}
 use Rattle.rewriter.proofs.carrying.Inserting.{turn_none, turn_place, turn_pair, turn_deleted, turn_carried}
 use Rattle.rewriter.proofs.carrying.turn.Goals as goal
 
-pub ending_rule-requires : goal.ending_rule-requires
-ending_rule-requires c =
-    let a = c.requires.ready in
-    record {
-      least_le = a.rank;
-      rank_le = a.high;
-      reading = a.reading;
-      place_le = omega (arith, ready_inside a, a.short);
-      stays = c.requires.q_value;
-    }
-
 pub returns-in_default-clause-moved : goal.returns-in_default-clause-moved
 returns-in_default-clause-moved c =
     turn_none c.requires.ready _ c.ending_rule.ensures c.in_default.is
@@ -26,11 +15,10 @@ pub overflow_sub-left : goal.overflow_sub-left
 overflow_sub-left c =
     omega (arith, turn_pair c.requires.ready _ c.ending_rule.ensures c.in-Some.is c.if-rule-eq1.true)
 
-pub note-requires : goal.note-requires
-note-requires c =
+pub note-requires-clause-place_bound : goal.note-requires-clause-place_bound
+note-requires-clause-place_bound c =
     let a = c.requires.ready in
-    let p = turn_place a _ c.ending_rule.ensures c.in-Some.is in
-    record { few = omega (arith, a.room); place_bound = (omega (arith, p, ready_inside a, a.short), omega (arith, a.short)) }
+    (omega (arith, turn_place a _ c.ending_rule.ensures c.in-Some.is, ready_inside a, a.short), omega (arith, a.short))
 
 pub delete-requires : goal.delete-requires
 delete-requires c =
@@ -42,11 +30,10 @@ returns-then-rule-eq1-clause-moved c =
     rw n.0
     (turn_deleted c.requires.ready _ c.ending_rule.ensures c.in-Some.is _ c.if-rule-eq1.true n.1 n.2 n.3 c.delete.ensures)
 
-pub note-requires-2 : goal.note-requires-2
-note-requires-2 c =
+pub note-requires-2-clause-place_bound : goal.note-requires-2-clause-place_bound
+note-requires-2-clause-place_bound c =
     let a = c.requires.ready in
-    let p = turn_place a _ c.ending_rule.ensures c.in-Some.is in
-    record { few = omega (arith, a.room); place_bound = (omega (arith, p, ready_inside a, a.short), omega (arith, a.short)) }
+    (omega (arith, turn_place a _ c.ending_rule.ensures c.in-Some.is, ready_inside a, a.short), omega (arith, a.short))
 
 pub carry-requires : goal.carry-requires
 carry-requires c =

@@ -3,7 +3,6 @@
 -- Assumes nothing.
 use mathlib.Core.Path.{sym, ◌∙◌}
 use native.Mathlib.Omega.{arith}
-use Rattle.traces.proofs.Reading.{reading_inside}
 use Rattle.rewriter.proofs.ending.Ends.{one, min_lower, ending_front, ending_square, ending_other}
 use Rattle.rewriter.proofs.ending.BlockEnds.{size_there, index_small, ending_block}
 use Rattle.rewriter.proofs.ending.ending_rule.Goals as goal
@@ -12,25 +11,9 @@ pub returns-then-q-eq0 : goal.returns-then-q-eq0
 returns-then-q-eq0 c =
     ending_front c.requires.least_le c.requires.reading c.if-q-eq0.true
 
-pub bounds-word-q : goal.bounds-word-q
-bounds-word-q c =
-    omega (arith, reading_inside _ _ c.requires.least_le _ _ c.requires.reading)
-
-pub bounds-word-q-2 : goal.bounds-word-q-2
-bounds-word-q-2 c =
-    reading_inside _ _ c.requires.least_le _ _ c.requires.reading
-
 pub returns-then-l-x : goal.returns-then-l-x
 returns-then-l-x c =
     ending_square _ _ c.requires.least_le _ _ c.requires.reading (one c.if-q-eq0.false) c.if-l-x.true
-
-pub place_of-place-requires : goal.place_of-place-requires
-place_of-place-requires c =
-    (c.requires.reading, one c.if-q-eq0.false, reading_inside _ _ c.requires.least_le _ _ c.requires.reading, c.requires.place_le)
-
-pub bounds-word-place : goal.bounds-word-place
-bounds-word-place c =
-    omega (arith, reading_inside _ _ c.requires.least_le _ _ c.requires.reading, c.place_of-place.ensures.0)
 
 pub returns-then-word-place : goal.returns-then-word-place
 returns-then-word-place c =

@@ -2,14 +2,14 @@
 -- Assumes nothing.
 use mathlib.Core.Path.{◌≡◌, refl}
 use mathlib.Core.Bool.{Bool, true, not}
-use Prim.Native.Nat.{ℕ, ◌-◌}
+use Prim.Native.Nat.{ℕ}
 use denote.Enum.Bare.{sameb}
 use Rattle.coxeter.specs.contracts.Kind.{the_type}
 use Rattle.coxeter.specs.declared.Kind.{Kind}
 use Rattle.coxeter.specs.declared.Kind.TheVariants.{A, B, D}
 use Rattle.coxeter.specs.NormalForm.{levels}
 use native.Mathlib.Omega.{arith}
-use Rattle.rewriter.proofs.ending.Ends.{letters_within, begun_rising, begun_falling}
+use Rattle.rewriter.proofs.ending.Ends.{begun_falling}
 use Rattle.rewriter.proofs.ending.Rising.{stopped_rising}
 use Rattle.rewriter.proofs.ending.place_of.Goals as goal
 
@@ -19,19 +19,8 @@ levels_whole A n e t = refl
 levels_whole B n e t = refl
 levels_whole D n e t = cc
 
-pub returns-then-l-x : goal.returns-then-l-x
-returns-then-l-x c = begun_rising _ _ _ _ c.saturating_sub-floor.ensures refl refl c.if-l-x.true c.start_of.ensures
-
-pub overflow_cast-back : goal.overflow_cast-back
-overflow_cast-back c =
-    omega (arith, letters_within _ _ c.args.group.in_range.0 _ _ c.requires.0 c.requires.1 (c.args.q - 1) (omega arith))
-
 pub returns-then-word-p : goal.returns-then-word-p
 returns-then-word-p c =
     begun_falling _ _ _ _ c.saturating_sub-floor.ensures refl refl c.if-l-x.false
     (stopped_rising c.args.group.in_range.0 c.requires.0 (levels_whole _ _ c.ne.ensures c.if-ne.true) c.if-l-x.false (omega arith)
     c.if-word-p.true)
-
-pub returns : goal.returns
-returns c =
-    begun_falling _ _ _ _ c.saturating_sub-floor.ensures refl refl c.if-l-x.false c.start_of-2.ensures

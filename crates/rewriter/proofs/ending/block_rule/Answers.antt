@@ -1,2 +1,0 @@
--- `ending::block_rule` goes by the tests of the search: the next index, then the family.
--- Assumes nothing.
