@@ -18,7 +18,7 @@ use Rattle.traces.proofs.Tracing.{Ready, Carried, Inserted}
 use Rattle.rewriter.specs.declared.ending.Ending.{Ending}
 use Rattle.std.specs.Prelude.{Option as Maybe, Some, None, MatchOption}
 use Rattle.rewriter.proofs.carrying.Shifting.{put}
-use Rattle.rewriter.proofs.carrying.CarriedSteps.{Noted, noted, carried_trans, carried_step, inserted_step, inserted_end, inserted_after}
+use Rattle.rewriter.proofs.carrying.CarriedSteps.{Noted, carried_step, inserted_step, inserted_end}
 use Rattle.rewriter.proofs.carrying.Passing.{ready_inside}
 use Rattle.rewriter.proofs.ending.Ends.{told, ending_of}
 
@@ -104,24 +104,7 @@ Moved k n rest a b size o =
     MatchOption o (Inserted k n rest a.steps a.families a.places a.lengths a.word b.steps b.families b.places b.lengths b.word size)
     (λ q. (size ≡ length a.word) × Carried k n rest a.steps a.families a.places a.lengths a.word b.steps b.families b.places b.lengths b.word q)
 
--- the letter has passed others, and then makes a turn, which moves it to a place before p, if to any
-pub moved_again : {k : Kind} {n : ℕ} {rest : List ℕ} {s : ℕ} {families places lengths word : List ℕ}
-    {s' : ℕ} {families' places' lengths' word' : List ℕ} {q : ℕ}
-    → Carried k n rest s families places lengths word s' families' places' lengths' word' q → {s'' : ℕ} {families'' places'' lengths'' word'' : List ℕ} {p : ℕ}
-    → Carried k n rest s' families' places' lengths' word' s'' families'' places'' lengths'' word'' p
-    → (s''' : ℕ) (families''' places''' lengths''' word''' : List ℕ) (size : ℕ) (o : Maybe ℕ)
-    → MatchOption o (Inserted k n rest s'' families'' places'' lengths'' word'' s''' families''' places''' lengths''' word''' size)
-    (λ r. (r < p) × (size ≡ length word'') × Carried k n rest s'' families'' places'' lengths'' word'' s''' families''' places''' lengths''' word''' r)
-    → Moved k n rest (noted s families places lengths word) (noted s''' families''' places''' lengths''' word''') size o
-moved_again a c s''' families''' places''' lengths''' word''' size None d = inserted_after (carried_trans a c) d
-moved_again a c s''' families''' places''' lengths''' word''' size (Some r) d = let b = carried_trans a c in (d.1 ∙ b.size, carried_trans b d.2)
-
 -- how many places are left for the letter that moves
 abbrev pub reach : Maybe ℕ → ℕ
 reach None = 0
 reach (Some q) = suc q
-
--- they are fewer after a turn
-pub turn_smaller : (o : Maybe ℕ) (P : Type 0) (Q R : ℕ → Type 0) {p q : ℕ} → MatchOption o P (λ r. (r < p) × Q r × R r) → p ≤ q → reach o < suc q
-turn_smaller None P Q R m l = omega arith
-turn_smaller (Some r) P Q R m l = omega (arith, m.0)

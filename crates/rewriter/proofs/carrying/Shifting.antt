@@ -8,9 +8,8 @@ use mathlib.Core.List.{List, ◌∷◌, ◌++◌, append_assoc}
 use Prim.Native.Nat.{ℕ, zero, suc, ◌+◌, ◌-◌, ◌≤◌, ◌<◌}
 use native.Mathlib.Decide.{ℕ_discrete}
 use native.Mathlib.Omega.{arith}
-use lib.ListN.{length, get_or, take, drop, set, length-drop, get_or-append}
-use lib.Seq.{length-take-le, take-suc, take_all, drop-cons, append_snoc, split_at, set_at, set-set, paste, get_or-take}
-use Rattle.std.proofs.lemmas.List.Edits.{take-paste}
+use lib.ListN.{length, get_or, take, drop, set, get_or-append}
+use lib.Seq.{length-take-le, take-suc, drop-cons, append_snoc, split_at, set_at, set-set, paste, get_or-take}
 use Rattle.traces.proofs.TwoLetters.{commuting}
 
 -- ---- by one to the right
@@ -82,14 +81,3 @@ module _ (n c : ℕ) (w : List ℕ) (q x : ℕ) where
   ]
 
 -- ---- by two to the left
-
--- the letters behind two copied over them
-pub deleted : (w : List ℕ) (place : ℕ) → place + 2 ≤ length w
-    → take (length w - 2) (paste w place (drop (place + 2) w) (length w - (place + 2))) ≡ take place w ++ drop (place + 2) w
-deleted w place h =
-    let n : ℕ = length w - (place + 2) in
-    let e : length w - 2 ≡ place + n = omega arith in
-    let l : length (drop (place + 2) w) ≡ n = length-drop (place + 2) w in
-    rw e
-    (take-paste w place (drop (place + 2) w) n (omega arith) (omega arith)
-    ∙ ap (λ (v : List ℕ). take place w ++ v) (take_all n (drop (place + 2) w) (omega arith)))

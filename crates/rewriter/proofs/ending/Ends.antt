@@ -6,12 +6,11 @@
 -- Assumes nothing.
 use mathlib.Core.Path.{◌≡◌, refl, sym, ap, subst, ◌∙◌}
 use mathlib.Core.Bool.{false}
-use mathlib.Core.Logic.{inl, inr}
 use mathlib.Core.List.{List}
 use mathlib.Core.Option.{Option, none, some, none-ne-some}
 use Prim.Native.Nat.{ℕ, suc, ◌+◌, ◌-◌, ◌*◌, ◌≤◌, ◌<◌, min}
 use native.Mathlib.Nat.{lt_of_not-le}
-use native.Mathlib.Decide.{dec_le, ℕ_discrete}
+use native.Mathlib.Decide.{dec_le}
 use native.Mathlib.Omega.{arith}
 use lib.Dec.{eqb}
 use lib.ListN.{length, get_or, take, drop, length-take}
@@ -41,26 +40,6 @@ pub record LettersAbove (w : List ℕ) (from i t : ℕ) : Type 0 where
   pub inside : t ≤ from
   pub above : (v : ℕ) → t ≤ v → v < from → i < get_or w v 0
 
-pub above_start : {w : List ℕ} {from i : ℕ} → LettersAbove w from i from
-above_start = record { inside = omega arith; above = λ v a b. absurd (omega arith) }
-
-module _ (w : List ℕ) (floor from i t : ℕ) (a : LettersAbove w from i t) where
-  pub above_next : floor < t → i < get_or w (t - 1) 0 → LettersAbove w from i (t - 1)
-  above_next f h = record {
-    inside = omega (arith, a.inside);
-    above = λ v b c. elim (ℕ_discrete v (t - 1)) [ yes e ↦ rw e h | no e ↦ a.above v (omega arith) c ];
-  }
-
-  pub above-found : floor < t → get_or w (t - 1) 0 ≤ i → Stopped w floor from i (t - 1)
-  above-found f h = record {
-    inside = omega (arith, a.inside);
-    above = λ v b c. a.above v (omega arith) c;
-    ends = inr (omega (arith, a.inside), h);
-  }
-
-  pub above_end : {p : ℕ} → t ≤ floor → p ≡ min floor from → Stopped w floor from i p
-  above_end h e = record { inside = omega arith; above = λ v b c. a.above v (omega (arith, a.inside)) c; ends = inl (omega arith) }
-
 -- where `place_of` has stopped
 abbrev pub Begun : List ℕ → ℕ → ℕ → ℕ → Type 0
 Begun w n q p =
@@ -70,9 +49,6 @@ Begun w n q p =
 module _ (w : List ℕ) (n q : ℕ) {l x floor : ℕ} (p : ℕ) (e : floor ≡ q + 1 - 2 * n) (f : l ≡ get_or w (q - 1) 0) (g : x ≡ get_or w q 0) where
   floor_is : floor ≡ suc q - 2 * n
   floor_is = omega (arith, e)
-
-  pub begun_rising : l < x → Stopped w floor (q - 1) l p → Begun w n q p
-  begun_rising h s = (omega (arith, s.inside), λ a. rw (← floor_is, ← f) s, λ a. absurd (omega arith))
 
   pub begun_falling : x ≤ l → Stopped w floor q x p → Begun w n q p
   begun_falling h s = (s.inside, λ a. absurd (omega arith), λ a. rw (← floor_is, ← g) s)
@@ -90,18 +66,6 @@ block_ending k n p i j x =
     pick (eqb (next_index n (levels k n) (last_index k n i) j x) 0)
     (pick (eqb f 0) None (Some (told f p (first_letter n f i (shown_index f j x)))))
     None
-
-module _ (k : Kind) (n p i j x : ℕ) where
-  pub block_goes_on : (next_index n (levels k n) (last_index k n i) j x ≡ 0 → ⊥) → None ≡ block_ending k n p i j x
-  block_goes_on z = rw (ne_eqb (next_index n (levels k n) (last_index k n i) j x) 0 z)
-
-  module _ (z : next_index n (levels k n) (last_index k n i) j x ≡ 0) where
-    pub block_no_rule : family_at n (fork k n) i j x ≡ 0 → None ≡ block_ending k n p i j x
-    block_no_rule y = rw (z, y)
-
-    pub block_has_rule : {f v y : ℕ} → f ≡ family_at n (fork k n) i j x → (f ≡ 0 → ⊥) → v ≡ shown_index f j x → y ≡ first_letter n f i v
-        → Some (told f p y) ≡ block_ending k n p i j x
-    block_has_rule {f} g o q r = rw (z, ← g, ne_eqb f 0 o, r, q)
 
 -- the rule at the lowest place, as the search hands it on
 abbrev pub ending_of : Option Redex → Maybe Ending

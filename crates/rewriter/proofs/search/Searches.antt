@@ -50,9 +50,6 @@ pub along_le : (k : Kind) (n i j : ℕ) → Along k n i j → (i ≤ n) × (j �
 along_le k n i j (start o l e) = (l, omega arith)
 along_le k n i j (further o l e g) = (omega (arith, levels_le k n), omega (arith, last_index_le k n i))
 
-pub last_index_le_of : (k : Kind) (n i m : ℕ) → m ≡ last_index k n i → m ≤ 2 * n
-last_index_le_of k n i m e = omega (arith, last_index_le k n i)
-
 fitting_of-found : (k : Kind) (n i j x f l : ℕ) → length (block k n i j) + 1 ≡ l
     → fitting_of (found k n i j x f) ≡ pick (eqb f 0) None (Some (shown f i (shown_index f j x) l))
 unfolding found rule_at

@@ -8,8 +8,8 @@ use mathlib.Core.List.{List, [], ◌∷◌, ◌++◌, append-nil, map}
 use Prim.Native.Nat.{ℕ, suc, ◌+◌, ◌-◌, ◌≤◌, ◌<◌}
 use native.Mathlib.Nat.{zero-add}
 use native.Mathlib.Omega.{arith}
-use lib.ListN.{length, get_or, take, drop, set, length-append, length-set, length-drop, drop_of_length-le}
-use lib.Seq.{length-take-le, take-suc-set, take-append-le, append_snoc, sets}
+use lib.ListN.{length, get_or, take, drop, set, length-append, length-drop, drop_of_length-le}
+use lib.Seq.{length-take-le, take-suc-set, append_snoc, sets}
 use Rattle.coxeter.specs.declared.Kind.{Kind}
 use Rattle.coxeter.specs.declared.Word.{Word}
 use Rattle.coxeter.specs.Checks.{wrong_letter, WordOf}
@@ -22,7 +22,7 @@ use Rattle.coxeter.proofs.FrontLaws.{sets-front, front_parts, front_whole}
 use Rattle.traces.specs.Traces.{Line, Trace, trace, families_of, places_of, lengths_of}
 use Rattle.traces.proofs.LeastWords.{Normal}
 use Rattle.traces.proofs.Reading.{reading_next, nil_irreducible}
-use Rattle.traces.proofs.Tracing.{Finished, finish_with, finish, finish_end, finish_steps, Ready, Inserted, steps_few, Made}
+use Rattle.traces.proofs.Tracing.{Finished, finish_with, finish, finish_end, finish_steps, Ready, steps_few, Made}
 
 -- ---- letters read
 
@@ -126,26 +126,6 @@ module _ (w : Word) (families places lengths work₀ : List ℕ) where
                 );
             as_places = p;
             as_lengths = z;
-          }
-
-      -- `after` is what the call leaves of what it was lent
-      pub making_next : {s'' : ℕ} {families'' places'' lengths'' after : List ℕ} {size'' : ℕ}
-          → Inserted kind n (take (length word - (i + 1)) (drop (i + 1) word)) s families' places' lengths'
-          (take (size + 1) (set work size (get_or word i 0))) s'' families'' places'' lengths'' after size''
-          → length after ≡ length (take (size + 1) (set work size (get_or word i 0)))
-          → Making kind n word families places lengths work₀ (i + 1) s'' families'' places'' lengths''
-          (after ++ drop (size + 1) (set work size (get_or word i 0))) size''
-      making_next {s''} {families''} {places''} {lengths''} {after} {size''} c q =
-          let v : List ℕ = drop (size + 1) (set work size letter) in
-          let t : take size'' (after ++ v) ≡ take size'' after = take-append-le size'' after v (omega (arith, c.inside)) in
-          record {
-            inside = omega arith;
-            short = omega (arith, c.inside, lent_length, m.short);
-            work_size =
-                length-append after v
-                ∙ omega (arith, lent_length, length-drop (size + 1) (set work size letter), length-set work size letter, m.work_size, making_room);
-            normal = rw t c.normal;
-            same = all ∙ c.same ∙ rw (t, rest_is);
           }
 
     -- ---- the end
