@@ -73,13 +73,11 @@ fn records_refusal(edition: Edition, book: &[u8], c: usize) -> u8
     requires { (book_refusal edition book.now ≡ 0) × (c ≡ count book.now) }
     ensures { result ≡ records_conversion_refusal edition book.now c 0 }
 {
-    let mut i = 0;
-    while i < c {
+    for i in 0..c {
         let refusal = record_refusal(edition, book, c, i);
         if refusal != 0 {
             return refusal;
         }
-        i += 1;
     }
     0
 }
@@ -145,11 +143,9 @@ fn write_others(edition: Edition, book: &[u8], c: usize, out: &mut [u8]) -> usiz
         × (result ≡ length (record_bytes (conversion.other edition) (records_from edition book.now c 0))) }
 {
     let mut p = 0;
-    let mut i = 0;
-    while i < c {
+    for i in 0..c {
         write_other(edition, book, c, i, out, p);
         p += other_size(edition, book, c, i);
-        i += 1;
     }
     p
 }
@@ -160,11 +156,9 @@ fn write_offsets(edition: Edition, book: &[u8], c: usize, out: &mut [u8], p: usi
     ensures { out.new ≡ sets out.old p (offset_bytes (conversion.other edition) 0 (records_from edition book.now c 0)) }
 {
     let mut o = 0;
-    let mut i = 0;
-    while i < c {
+    for i in 0..c {
         put_two(out, p + 2 * i, o);
         o += other_size(edition, book, c, i);
-        i += 1;
     }
 }
 

@@ -25,15 +25,13 @@ fn is_misplaced(edition: Edition, book: &[u8], c: usize) -> bool
     let head = head_size(edition);
     let mut wrong = false;
     let mut due = 0;
-    let mut i = 0;
-    while i < c {
+    for i in 0..c {
         let offset = two_at(book, trailer + 2 * i);
         if trailer < offset + head {
             return true;
         }
         wrong = wrong | (offset != due);
         due = offset + head + two_at(book, offset + place);
-        i += 1;
     }
     wrong | (due != trailer)
 }

@@ -50,10 +50,8 @@ fn put_run(edition: Edition, book: &[u8], first: usize, n: usize, fields: &mut [
     requires { (book_refusal edition book.now ≡ 0) × (first + n ≤ count book.now) × (5 * n ≤ length fields.old) }
     ensures { fields.new ≡ sets fields.old 0 (preset_fields edition book.now n first) }
 {
-    let mut i = 0;
-    while i < n {
+    for i in 0..n {
         put_preset(numbered_preset(edition, book, 0, first + i), fields, 5 * i);
-        i += 1;
     }
 }
 
@@ -86,11 +84,8 @@ pub fn read_run(edition: Edition, book: &[u8], first: usize) -> Run
     let opened = opened_by(edition, book, refusal);
     let start = smaller_of(first, LARGEST);
     let mut presets = slots_128();
-    let mut i = 0;
-    while i < 128 {
-        let preset = numbered_preset(edition, book, refusal, start + i);
-        presets[i] = Slot { preset };
-        i += 1;
+    for (i, slot) in presets.iter_mut().enumerate() {
+        slot.preset = numbered_preset(edition, book, refusal, start + i);
     }
     Run {
         opened,

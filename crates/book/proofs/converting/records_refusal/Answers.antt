@@ -1,6 +1,5 @@
 -- What `search` leaves open of the proof of `converting::records_refusal`.
 use mathlib.Core.Path.{sym, ◌∙◌}
-use native.Mathlib.Omega.{arith}
 use Rattle.book.proofs.converting.ConversionChecks.{checks_start, checks_stop, checks_next, checks_end}
 use Rattle.book.proofs.converting.records_refusal.Goals as goal
 
@@ -13,12 +12,6 @@ record_refusal-refusal-requires c = let pre = c.requires in (pre.0, pre.1, c.loo
 pub returns-then-refusal-ne0 : goal.returns-then-refusal-ne0
 returns-then-refusal-ne0 c =
     sym (c.loop-i.invariant ∙ checks_stop _ _ _ _ _ c.loop-i-test.true c.record_refusal-refusal.ensures c.if-refusal-ne0.true)
-
-pub overflow_add-i : goal.overflow_add-i
-overflow_add-i c = omega arith
-
-pub loop-i-smaller : goal.loop-i-smaller
-loop-i-smaller c = omega arith
 
 pub loop-i-preserved : goal.loop-i-preserved
 loop-i-preserved c =

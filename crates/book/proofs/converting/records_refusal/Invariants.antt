@@ -8,6 +8,3 @@ use Rattle.book.proofs.converting.records_refusal.Given as goal
 
 abbrev pub invariant-loop-i : goal.invariant-loop-i
 invariant-loop-i l = records_conversion_refusal l.edition l.book l.c 0 ≡ records_conversion_refusal l.edition l.book (l.c - l.i) l.i
-
-abbrev pub decreases-loop-i : goal.decreases-loop-i
-decreases-loop-i l = l.c - l.i

@@ -26,12 +26,6 @@ pub overflow_add-o : goal.overflow_add-o
 overflow_add-o c =
     omega (arith, offset_small c.requires.0 c.requires.1 c.loop-i.invariant c.loop-i-test.true, c.other_size-o.ensures)
 
-pub overflow_add-i : goal.overflow_add-i
-overflow_add-i c = omega arith
-
-pub loop-i-smaller : goal.loop-i-smaller
-loop-i-smaller c = omega arith
-
 pub loop-i-preserved : goal.loop-i-preserved
 loop-i-preserved c =
     offsets_next c.requires.0 c.requires.1 c.loop-i.invariant c.loop-i-test.true

@@ -1,12 +1,8 @@
 -- `converting::write_offsets` writes offset after offset. The invariant: what is left to store are the offsets of
 -- the records from `i` on, of which the first begins at `o` in the new book.
 -- Assumes nothing.
-use Prim.Native.Nat.{◌-◌}
 use Rattle.book.proofs.converting.Conversions.{Placing}
 use Rattle.book.proofs.converting.write_offsets.Given as goal
 
 abbrev pub invariant-loop-i : goal.invariant-loop-i
 invariant-loop-i l = Placing l.edition l.book l.c l.initial.out l.p l.out l.o l.i
-
-abbrev pub decreases-loop-i : goal.decreases-loop-i
-decreases-loop-i l = l.c - l.i

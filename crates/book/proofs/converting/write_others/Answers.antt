@@ -22,12 +22,6 @@ overflow_add-p c =
     let inv = c.loop-i.invariant in
     omega (arith, others_room pre.0 pre.1 _ inv c.loop-i-test.true pre.2, inv.size, c.other_size-p.ensures)
 
-pub overflow_add-i : goal.overflow_add-i
-overflow_add-i c = omega arith
-
-pub loop-i-smaller : goal.loop-i-smaller
-loop-i-smaller c = omega arith
-
 pub loop-i-preserved : goal.loop-i-preserved
 loop-i-preserved c =
     others_next c.requires.0 c.requires.1 _ c.loop-i.invariant c.loop-i-test.true

@@ -10,6 +10,3 @@ use Rattle.book.proofs.converting.write_others.Given as goal
 abbrev pub invariant-loop-i : goal.invariant-loop-i
 invariant-loop-i l =
     Storing l.initial.out 0 (record_bytes (other l.edition) (records_from l.edition l.book l.c 0)) l.out l.p (record_bytes (other l.edition) (records_from l.edition l.book (l.c - l.i) l.i))
-
-abbrev pub decreases-loop-i : goal.decreases-loop-i
-decreases-loop-i l = l.c - l.i

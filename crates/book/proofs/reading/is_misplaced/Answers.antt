@@ -50,12 +50,6 @@ two_at-requires c = omega arith
 pub overflow_add-due-in-loop-i : goal.overflow_add-due-in-loop-i
 overflow_add-due-in-loop-i c = omega arith
 
-pub overflow_add-i : goal.overflow_add-i
-overflow_add-i c = omega arith
-
-pub loop-i-smaller : goal.loop-i-smaller
-loop-i-smaller c = omega arith
-
 pub loop-i-preserved : goal.loop-i-preserved
 loop-i-preserved c =
     let e = c.requires.c_value in (

@@ -11,6 +11,3 @@ use Rattle.book.proofs.reading.is_misplaced.Given as goal
 abbrev pub invariant-loop-i : goal.invariant-loop-i
 invariant-loop-i l =
     (l.i ≤ l.c) × ((ed : Edition) → l.place ≡ count_place ed → misplaced ed l.book ≡ (l.wrong || misplaced_from ed l.book (l.c - l.i) l.i l.due))
-
-abbrev pub decreases-loop-i : goal.decreases-loop-i
-decreases-loop-i l = l.c - l.i

@@ -24,12 +24,6 @@ pub put_preset-requires : goal.put_preset-requires
 put_preset-requires c =
     omega (arith, c.requires.2, c.loop-i.invariant.1, c.loop-i-test.true)
 
-pub overflow_add-i : goal.overflow_add-i
-overflow_add-i c = omega arith
-
-pub loop-i-smaller : goal.loop-i-smaller
-loop-i-smaller c = omega arith
-
 pub loop-i-preserved : goal.loop-i-preserved
 loop-i-preserved c =
     let inv = c.loop-i.invariant in

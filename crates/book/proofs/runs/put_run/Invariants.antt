@@ -12,6 +12,3 @@ abbrev pub invariant-loop-i : goal.invariant-loop-i
 invariant-loop-i l =
     (l.i ≤ l.n) × (length l.fields ≡ length l.initial.fields)
     × (sets l.initial.fields 0 (preset_fields l.edition l.book l.n l.first) ≡ sets l.fields (5 * l.i) (preset_fields l.edition l.book (l.n - l.i) (l.first + l.i)))
-
-abbrev pub decreases-loop-i : goal.decreases-loop-i
-decreases-loop-i l = l.n - l.i

@@ -12,12 +12,9 @@ pub overflow_add-start : goal.overflow_add-start
 overflow_add-start c =
     omega (arith, c.smaller_of-start.ensures, min-le_right c.args.first 65535)
 
-pub loop-i-smaller : goal.loop-i-smaller
-loop-i-smaller c = omega arith
-
 pub loop-i-preserved : goal.loop-i-preserved
 loop-i-preserved c =
-    let read = c.numbered_preset-preset.ensures ∙ preset_from _ _ _ _ _ c.smaller_of-start.ensures in
+    let read = c.numbered_preset-slot.ensures ∙ preset_from _ _ _ _ _ c.smaller_of-start.ensures in
     first_stored_next _ _ _ c.loop-i.invariant c.loop-i-test.true (ap (λ p. record { preset = p }) read)
 
 pub returns : goal.returns
