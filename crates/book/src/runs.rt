@@ -1,5 +1,5 @@
 // A run of presets, read with one walk over the book: an array of them, or five numbers for each.
-ghost use Rattle.std.specs.Prelude.{◌≡◌, [], ◌∷◌, map, ◌+◌, ◌*◌, ◌≤◌, min, length};
+ghost use Rattle.std.specs.Prelude.{◌≡◌, [], ◌∷◌, map, ◌+◌, ◌*◌, ◌≤◌, length};
 ghost use Rattle.std.proofs.lemmas.List.Edits.{sets};
 ghost use Rattle.coxeter.specs.Kinds.{up};
 ghost use Rattle.book_format.specs.Books.{count, book_refusal};
@@ -55,24 +55,6 @@ fn put_run(edition: Edition, book: &[u8], first: usize, n: usize, fields: &mut [
     }
 }
 
-fn smaller_of(a: usize, b: usize) -> usize
-    ensures { result ≡ min a b }
-{
-    if a < b {
-        return a;
-    }
-    b
-}
-
-// Room for 128 presets.
-fn slots_128() -> [Slot; 128]
-    ensures { 128 ≡ length result }
-{
-    let preset = Preset::Refused(0);
-    let slot = Slot { preset };
-    [slot; 128]
-}
-
 // I35: what `check_book` returns, and the 128 presets from number `first` on, each as `check_preset` returns it:
 // refused 4 past the last one. Checks 1 to 3 are made once for all. No book has the preset 65,535, so that larger
 // numbers need not be told apart.
@@ -82,8 +64,9 @@ pub fn read_run(edition: Edition, book: &[u8], first: usize) -> Run
 {
     let refusal = book_refusal(edition, book);
     let opened = opened_by(edition, book, refusal);
-    let start = smaller_of(first, LARGEST);
-    let mut presets = slots_128();
+    let start = first.min(LARGEST);
+    let preset = Preset::Refused(0);
+    let mut presets = [Slot { preset }; 128];
     for (i, slot) in presets.iter_mut().enumerate() {
         slot.preset = numbered_preset(edition, book, refusal, start + i);
     }
@@ -112,7 +95,7 @@ pub fn read_presets(edition: Edition, book: &[u8], first: usize, fields: &mut [u
     if fields.len() < 5 {
         return Answer::Refused(14);
     }
-    let n = smaller_of(c - first, fields.len() / 5);
+    let n = (c - first).min(fields.len() / 5);
     put_run(edition, book, first, n, fields);
     Answer::Length(n)
 }

@@ -24,7 +24,7 @@ returns-then-fields-lt5 c =
 
 pub put_run-requires : goal.put_run-requires
 put_run-requires c =
-    let fits = run_fits _ _ _ _ c.smaller_of-n.ensures c.if-c-first.false in
+    let fits = run_fits _ _ _ _ c.min-n.ensures c.if-c-first.false in
     let e = c.count_of-c.ensures.0 in
     (sym c.book_refusal-refusal.ensures ∙ c.if-refusal-ne0.false, omega (arith, fits.0), fits.1)
 
@@ -32,4 +32,4 @@ pub returns : goal.returns
 returns c =
     reading_run _ _ _ _ c.book_refusal-refusal.ensures c.if-refusal-ne0.false c.count_of-c.ensures.0 c.if-c-first.false
     c.if-fields-lt5.false
-    c.smaller_of-n.ensures c.put_run.ensures
+    c.min-n.ensures c.put_run.ensures

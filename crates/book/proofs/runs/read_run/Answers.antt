@@ -6,15 +6,15 @@ use Rattle.book.proofs.runs.StoredRuns.{first_stored_none, first_stored_next, pr
 use Rattle.book.proofs.runs.read_run.Goals as goal
 
 pub loop-i-init : goal.loop-i-init
-loop-i-init c = first_stored_none _ _ _ _ c.slots_128-presets.ensures
+loop-i-init c = first_stored_none _ _ _ _ refl
 
 pub overflow_add-start : goal.overflow_add-start
 overflow_add-start c =
-    omega (arith, c.smaller_of-start.ensures, min-le_right c.args.first 65535)
+    omega (arith, c.min-start.ensures, min-le_right c.args.first 65535)
 
 pub loop-i-preserved : goal.loop-i-preserved
 loop-i-preserved c =
-    let read = c.numbered_preset-slot.ensures ∙ preset_from _ _ _ _ _ c.smaller_of-start.ensures in
+    let read = c.numbered_preset-slot.ensures ∙ preset_from _ _ _ _ _ c.min-start.ensures in
     first_stored_next _ _ _ c.loop-i.invariant c.loop-i-test.true (ap (λ p. record { preset = p }) read)
 
 pub returns : goal.returns
