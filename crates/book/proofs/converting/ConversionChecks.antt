@@ -45,9 +45,6 @@ lanes_decide ed b {o} k n s l e q w = rw (← e, record_found ed b o k n s l q, 
 
 -- those of the records from record i on, of c in all: r is that of record i
 module _ (ed : Edition) (b : List ℕ) (c i : ℕ) where
-  pub checks_start : records_conversion_refusal ed b c 0 ≡ records_conversion_refusal ed b (c - 0) 0
-  checks_start = let e : c - 0 ≡ c = omega arith in rw e
-
   pub checks_end : c ≤ i → records_conversion_refusal ed b (c - i) i ≡ 0
   unfolding records_conversion_refusal
   checks_end h = let e : c - i ≡ 0 = omega arith in rw e

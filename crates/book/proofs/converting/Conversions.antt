@@ -9,11 +9,11 @@ use Prim.Native.Nat.{ℕ, suc, ◌+◌, ◌-◌, ◌*◌, ◌≤◌, ◌<◌}
 use native.Mathlib.Nat.{zero-add}
 use native.Mathlib.Numerals.{add-one}
 use native.Mathlib.Omega.{arith}
-use lib.ListN.{length, get_or, take, drop, length-append}
+use lib.ListN.{length, length-append}
 use lib.Seq.{sets, length-sets}
 use Rattle.coxeter.specs.Checks.{RankOf}
 use Rattle.coxeter.specs.declared.Answer.TheVariants as answer
-use Rattle.coxeter.proofs.Lists.{Storing, storing_all, sets_next}
+use Rattle.coxeter.proofs.Lists.{Storing, sets_next}
 use Rattle.coxeter.proofs.Outcomes.{writes-refused, writes_short, writes_done, writes-written}
 use Rattle.coxeter.proofs.FrontLaws.{sets-front}
 use Rattle.book_format.specs.declared.Edition.{Edition}
@@ -87,26 +87,9 @@ module _ {ed : Edition} {b : List ℕ} (w : Convertible ed b) {c : ℕ} (n : c �
     pub rank_passed : RankOf (kind_at b o) (rank_at b o)
     rank_passed = rw q (book_rank_accepted ed (kind_at b (offset b i)) (rank_at b (offset b i)) (passing-at ed b i w (omega arith)).rank)
 
-    pub size_of_other : {to : Edition} {x : ℕ} → to ≡ other ed → x ≡ head_size to → x + l ≡ head_size (other ed) + letter_count_at ed b (offset b i)
-    size_of_other e k = rw (k, e, g, f, q)
-
     -- its letters begin m bytes after it
-    module _ {m : ℕ} (d : m ≡ head_size ed) where
-      letters_are : take (o + m + l - (o + m)) (drop (o + m) b) ≡ letters_at ed b (offset b i)
-      letters_are = let s : o + m + l - (o + m) ≡ l = omega arith in rw (s, d, g, f, q)
-
-      pub end_inside : o + m + l ≤ length b
-      end_inside = end_read_le ed b o f d g (end_at_inside ed b c i o w.opens n h q)
-
-      pub room_for : {to : Edition} (at most : ℕ) → to ≡ other ed → at + head_size (other ed) + letter_count_at ed b (offset b i) ≤ most
-          → at + head_size to + length (take (o + m + l - (o + m)) (drop (o + m) b)) ≤ most
-      room_for at most e k =
-          rw (letters_are, e, length-letters_at ed b (offset b i) (end_at_inside ed b c i (offset b i) w.opens n h refl)) k
-
-      pub other-written : {to : Edition} (at : ℕ) {m' : ℕ} (out : List ℕ) {out' : List ℕ} → m' ≡ lanes_at ed b o → to ≡ other ed
-          → out' ≡ sets out at (record_of to (get_or b o 0) (get_or b (o + 1) 0) m' (take (o + m + l - (o + m)) (drop (o + m) b)))
-          → out' ≡ sets out at (bytes_at ed b i)
-      other-written at out r e k = k ∙ rw (letters_are, e, r, q)
+    pub end_inside : {m : ℕ} → m ≡ head_size ed → o + m + l ≤ length b
+    end_inside d = end_read_le ed b o f d g (end_at_inside ed b c i o w.opens n h q)
 
   -- ---- the records, one after the other
 
@@ -120,9 +103,6 @@ module _ {ed : Edition} {b : List ℕ} (w : Convertible ed b) {c : ℕ} (n : c �
       let l = length-offset_bytes (other ed) 0 (records_from ed b c 0) in
       let r = length-records_from ed b c 0 in
       ap length converted_parts ∙ simp (length-append, length_two) (omega arith)
-
-  pub others_start : (out : List ℕ) → Storing out 0 (all_bytes ed b c) out 0 (bytes_left ed b c 0)
-  others_start out = let e : c - 0 ≡ c = omega arith in rw e storing_all
 
   module _ {o out : List ℕ} {p : ℕ} (i : ℕ) (s : Storing o 0 (all_bytes ed b c) out p (bytes_left ed b c i)) where
     pub others_room : i < c → length (converted ed b) ≤ length o → p + head_size (other ed) + letter_count_at ed b (offset b i) ≤ length out
@@ -157,12 +137,6 @@ module _ {ed : Edition} {b : List ℕ} (w : Convertible ed b) {c : ℕ} (n : c �
       let l = length-letters_at ed b (offset b i) (end_at_inside ed b c i (offset b i) w.opens n h refl) in
       let e : o + head_size (other ed) + length (letters_at ed b (offset b i)) ≡ o + x = omega arith in
       rw (records_left ed b c i h, e)
-
-  pub offsets_start : (out : List ℕ) (at : ℕ) → Placing ed b c out at out 0 0
-  offsets_start out at =
-      let e : c - 0 ≡ c = omega arith in
-      let z : at + 2 * 0 ≡ at = omega arith in
-      record { storing = rw (e, z) storing_all; begins = rw e (zero-add (length (all_bytes ed b c))) }
 
   module _ {before : List ℕ} {at : ℕ} {out : List ℕ} {o i : ℕ} (s : Placing ed b c before at out o i) where
     pub offset_small : i < c → o + (head_size (other ed) + letter_count_at ed b (offset b i)) ≤ 65535

@@ -4,10 +4,10 @@
 -- Assumes nothing.
 use mathlib.Core.Path.{◌≡◌, refl, sym, ◌∙◌}
 use mathlib.Core.List.{List, [], ◌∷◌, map, map-append, map-map}
-use Prim.Native.Nat.{ℕ, suc, ◌+◌, ◌-◌, ◌*◌, ◌/◌, ◌≤◌, ◌<◌, min}
+use Prim.Native.Nat.{ℕ, suc, ◌+◌, ◌-◌, ◌*◌, ◌≤◌, ◌<◌, min}
 use native.Mathlib.Decide.{ℕ_discrete, dec_le}
-use native.Mathlib.Nat.{add-zero, min-le_left, min-le_right, min-eq_left, min-eq_right}
-use native.Mathlib.Numerals.{add-one, add-two, add-three, add-four}
+use native.Mathlib.Nat.{min-eq_left, min-eq_right}
+use native.Mathlib.Numerals.{add-one}
 use native.Mathlib.Omega.{arith}
 use lib.ListN.{length, set, take, length-set}
 use lib.Seq.{sets, take_all, take-suc-set}
@@ -76,14 +76,8 @@ preset_from ed b i s j e = elim (dec_le i 65535) [
 
 -- ---- five numbers
 
-pub sets_five : (l : List ℕ) (p a b c d e : ℕ) → set (set (set (set (set l p a) (p + 1) b) (p + 2) c) (p + 3) d) (p + 4) e ≡ sets l p (a ∷ b ∷ c ∷ d ∷ e ∷ [])
-sets_five l p a b c d e = simp (add-one, add-two, add-three, add-four)
-
 -- n presets from preset i on, of which those from j on are left
 module _ (ed : Edition) (out b : List ℕ) (n i : ℕ) where
-  pub run_start : sets out 0 (preset_fields ed b n i) ≡ sets out (5 * 0) (preset_fields ed b (n - 0) (i + 0))
-  run_start = let e : n - 0 ≡ n = omega arith in rw (e, add-zero i)
-
   pub run_step : (j : ℕ) {p : Preset} {o : List ℕ} → j < n → p ≡ checked_preset ed b (i + j) → o ≡ sets out (5 * j) (fields_of p)
       → sets out (5 * j) (preset_fields ed b (n - j) (i + j)) ≡ sets o (5 * (j + 1)) (preset_fields ed b (n - (j + 1)) (i + (j + 1)))
   unfolding preset_fields
@@ -96,7 +90,3 @@ module _ (ed : Edition) (out b : List ℕ) (n i : ℕ) where
   pub run_end : (j : ℕ) → n ≤ j → sets out (5 * j) (preset_fields ed b (n - j) (i + j)) ≡ out
   unfolding preset_fields
   run_end j h = let e : n - j ≡ 0 = omega arith in rw e
-
--- a run as long as the presets and the room allow
-pub run_fits : (n c i m : ℕ) → n ≡ min (c - i) (m / 5) → i < c → (i + n ≤ c) × (5 * n ≤ m)
-run_fits n c i m e h = (omega (arith, min-le_left (c - i) (m / 5)), omega (arith, min-le_right (c - i) (m / 5)))

@@ -3,7 +3,6 @@
 use native.Mathlib.Omega.{arith}
 use Rattle.book_format.proofs.BookLaws.{counted_some}
 use Rattle.book.proofs.converting.ConversionChecks.{end_at_inside}
-use Rattle.book.proofs.converting.Conversions.{size_of_other}
 use Rattle.book.proofs.converting.other_size.Goals as goal
 
 pub record_start-o-requires : goal.record_start-o-requires
@@ -15,9 +14,3 @@ pub two_at-requires : goal.two_at-requires
 two_at-requires c =
     let pre = c.requires in
     omega (arith, end_at_inside _ _ _ _ _ pre.0.opens pre.1 pre.2 c.record_start-o.ensures.0, c.count_place-place.ensures.0)
-
-pub returns : goal.returns
-returns c =
-    let pre = c.requires in
-    size_of_other pre.0 pre.1 _ pre.2 c.record_start-o.ensures.0 c.count_place-place.ensures.0 c.two_at.ensures.0
-    c.other.ensures c.head_size.ensures.0

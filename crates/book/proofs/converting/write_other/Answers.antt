@@ -4,7 +4,7 @@
 use native.Mathlib.Omega.{arith}
 use Rattle.book_format.proofs.BookLaws.{accepted, counted_some, two_le_count_place}
 use Rattle.book.proofs.converting.ConversionChecks.{end_at_inside}
-use Rattle.book.proofs.converting.Conversions.{rank_passed, end_inside, room_for, other-written}
+use Rattle.book.proofs.converting.Conversions.{rank_passed, end_inside}
 use Rattle.book.proofs.converting.write_other.Goals as goal
 
 pub record_start-o-requires : goal.record_start-o-requires
@@ -38,18 +38,3 @@ slice_bounds-write_record-end c =
     let pre = c.requires.convertible in
     end_inside pre.0 pre.1 _ pre.2 c.record_start-o.ensures.0 c.count_place-place.ensures.0 c.two_at.ensures.0
     c.head_size.ensures.0
-
-pub write_record-requires : goal.write_record-requires
-write_record-requires c =
-    let pre = c.requires.convertible in (
-      c.lanes_at-m.ensures.1,
-      room_for pre.0 pre.1 _ pre.2 c.record_start-o.ensures.0 c.count_place-place.ensures.0 c.two_at.ensures.0
-          c.head_size.ensures.0 _ _ c.other.ensures c.requires.number_in_bounds,
-    )
-
-pub returns : goal.returns
-returns c =
-    let pre = c.requires.convertible in
-    other-written pre.0 pre.1 _ pre.2 c.record_start-o.ensures.0 c.count_place-place.ensures.0 c.two_at.ensures.0
-    c.head_size.ensures.0 _ _ c.lanes_at-m.ensures.0 c.other.ensures
-    c.write_record.ensures

@@ -1,20 +1,13 @@
 -- What `search` leaves open of the proof of `converting::write_others`.
 use native.Mathlib.Omega.{arith}
-use Rattle.book.proofs.converting.Conversions.{others_start, others_room, others_next, others_end}
+use Rattle.book.proofs.converting.Conversions.{others_room, others_next, others_end}
 use Rattle.book.proofs.converting.write_others.Goals as goal
-
-pub loop-i-init : goal.loop-i-init
-loop-i-init c = let pre = c.requires in others_start pre.0 pre.1 _
 
 pub write_other-requires : goal.write_other-requires
 write_other-requires c =
     let pre = c.requires in
     let test = c.loop-i-test.true in
     record { convertible = (pre.0, pre.1, test); number_in_bounds = others_room pre.0 pre.1 _ c.loop-i.invariant test pre.2 }
-
-pub other_size-p-requires : goal.other_size-p-requires
-other_size-p-requires c =
-    (c.requires.0, c.requires.1, c.loop-i-test.true)
 
 pub overflow_add-p : goal.overflow_add-p
 overflow_add-p c =
@@ -26,9 +19,6 @@ pub loop-i-preserved : goal.loop-i-preserved
 loop-i-preserved c =
     others_next c.requires.0 c.requires.1 _ c.loop-i.invariant c.loop-i-test.true
     c.write_other.ensures c.other_size-p.ensures
-
-pub shape_of-out : goal.shape_of-out
-shape_of-out c = c.loop-i.invariant.size
 
 pub returns : goal.returns
 returns c =

@@ -4,7 +4,6 @@ use mathlib.Core.Path.{◌≡◌, refl, sym}
 use Rattle.coxeter.specs.Kinds.{kind_of, lanes}
 use Rattle.coxeter.proofs.LaneCounts.{refusal_of_lanes, count_of_lanes}
 use Rattle.book_format.specs.Books.{kind_at, rank_at, book_rank_refusal}
-use Rattle.book_format.proofs.BookLaws.{end_read_le}
 use Rattle.book_format.proofs.PresetLaws.{checked_record_rank, checked_record-lanes, checked_record_word, checked_record-found}
 use borrow.Author.Rules.{rules}
 use Rattle.book.proofs.reading.check_record.Goals as goal
@@ -26,10 +25,6 @@ returns-then-has_wrong_lanes c =
     × (c.in-Count.m ≡ lanes (kind_of (kind_at a.book.now a.o)) (rank_at a.book.now a.o)) =
     count_of_lanes _ _ _ c.book_lanes.ensures _ c.in-Count.is in
     sym (checked_record-lanes _ _ _ refl (counted).0 c.has_wrong_lanes.ensures c.if-has_wrong_lanes.true)
-
-pub slice_bounds-preset_refusal-end : goal.slice_bounds-preset_refusal-end
-slice_bounds-preset_refusal-end c =
-    end_read_le c.args.edition _ _ c.count_place-place.ensures.0 c.head_size-head.ensures.0 c.two_at-letter_count.ensures.0 c.requires.o_in_bounds
 
 pub returns-then-refusal-ne0 : goal.returns-then-refusal-ne0
 returns-then-refusal-ne0 c =

@@ -5,29 +5,8 @@ use native.Mathlib.Omega.{arith}
 use Rattle.book_format.proofs.BookLaws.{misplaced_start, misplaced_room, misplaced_step, misplaced_last}
 use Rattle.book.proofs.reading.is_misplaced.Goals as goal
 
-pub overflow_mul-trailer : goal.overflow_mul-trailer
-overflow_mul-trailer c = omega arith
-
-pub overflow_add-trailer : goal.overflow_add-trailer
-overflow_add-trailer c = omega arith
-
-pub overflow_sub-trailer : goal.overflow_sub-trailer
-overflow_sub-trailer c = omega arith
-
 pub loop-i-init : goal.loop-i-init
 loop-i-init c = (omega arith, λ ed w. misplaced_start ed _ _ c.requires.c_value)
-
-pub overflow_mul-i : goal.overflow_mul-i
-overflow_mul-i c = omega arith
-
-pub overflow_add-trailer-in-loop-i : goal.overflow_add-trailer-in-loop-i
-overflow_add-trailer-in-loop-i c = omega arith
-
-pub two_at-offset-requires : goal.two_at-offset-requires
-two_at-offset-requires c = omega arith
-
-pub overflow_add-offset : goal.overflow_add-offset
-overflow_add-offset c = omega arith
 
 pub returns-then-trailer-offset : goal.returns-then-trailer-offset
 returns-then-trailer-offset c =
@@ -37,18 +16,6 @@ returns-then-trailer-offset c =
     (c.loop-i.invariant.1 _ w
     ∙ misplaced_room _ _ _ _ e c.loop-i-test.true c.two_at-offset.ensures.0 w c.head_size-head.ensures.0
     c.loop-i.wrong c.if-trailer-offset.true)
-
-pub overflow_add-due : goal.overflow_add-due
-overflow_add-due c = omega arith
-
-pub overflow_add-offset-in-loop-i : goal.overflow_add-offset-in-loop-i
-overflow_add-offset-in-loop-i c = omega arith
-
-pub two_at-requires : goal.two_at-requires
-two_at-requires c = omega arith
-
-pub overflow_add-due-in-loop-i : goal.overflow_add-due-in-loop-i
-overflow_add-due-in-loop-i c = omega arith
 
 pub loop-i-preserved : goal.loop-i-preserved
 loop-i-preserved c =

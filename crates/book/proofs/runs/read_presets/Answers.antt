@@ -2,10 +2,8 @@
 -- have room.
 -- Assumes nothing.
 use mathlib.Core.Path.{sym, ◌∙◌}
-use native.Mathlib.Omega.{arith}
 use Rattle.book_format.proofs.BookLaws.{never_one}
 use Rattle.book_format.proofs.RunLaws.{reading_book, reading_number, reading_short, reading_run}
-use Rattle.book.proofs.runs.StoredRuns.{run_fits}
 use Rattle.book.proofs.runs.read_presets.Goals as goal
 
 pub returns-then-refusal-ne0 : goal.returns-then-refusal-ne0
@@ -21,12 +19,6 @@ returns-then-c-first c =
 pub returns-then-fields-lt5 : goal.returns-then-fields-lt5
 returns-then-fields-lt5 c =
     reading_short _ _ _ _ c.book_refusal-refusal.ensures c.if-refusal-ne0.false c.count_of-c.ensures.0 c.if-c-first.false c.if-fields-lt5.true
-
-pub put_run-requires : goal.put_run-requires
-put_run-requires c =
-    let fits = run_fits _ _ _ _ c.min-n.ensures c.if-c-first.false in
-    let e = c.count_of-c.ensures.0 in
-    (sym c.book_refusal-refusal.ensures ∙ c.if-refusal-ne0.false, omega (arith, fits.0), fits.1)
 
 pub returns : goal.returns
 returns c =

@@ -1,16 +1,10 @@
 -- What `search` leaves open of the proof of `runs::read_run`.
 use mathlib.Core.Path.{refl, ap, ◌∙◌}
-use native.Mathlib.Nat.{min-le_right}
-use native.Mathlib.Omega.{arith}
 use Rattle.book.proofs.runs.StoredRuns.{first_stored_none, first_stored_next, presets_whole, preset_from}
 use Rattle.book.proofs.runs.read_run.Goals as goal
 
 pub loop-i-init : goal.loop-i-init
 loop-i-init c = first_stored_none _ _ _ _ refl
-
-pub overflow_add-start : goal.overflow_add-start
-overflow_add-start c =
-    omega (arith, c.min-start.ensures, min-le_right c.args.first 65535)
 
 pub loop-i-preserved : goal.loop-i-preserved
 loop-i-preserved c =
