@@ -17,16 +17,16 @@ use Rattle.coxeter.proofs.Lists.{Storing, sets_next}
 use Rattle.coxeter.proofs.Outcomes.{writes-refused, writes_short, writes_done, writes-written}
 use Rattle.coxeter.proofs.FrontLaws.{sets-front}
 use Rattle.book_format.specs.declared.Edition.{Edition}
-use Rattle.book_format.specs.Books.{two_at, two, count, offset, count_place, head_size, kind_at, rank_at}
+use Rattle.book_format.specs.Books.{two, count, offset, head_size, kind_at, rank_at}
 use Rattle.book_format.specs.Books.{lanes_at, letter_count_at, letters_at, record_of}
 use Rattle.book_format.specs.Records.{record_bytes, offset_bytes, lay_out, record_at, records_from, records_of}
 use Rattle.book_format.specs.Conversion.{other, converted, conversion_refusal, converting}
-use Rattle.book_format.proofs.BookLaws.{accepted, end_read_le}
+use Rattle.book_format.proofs.BookLaws.{accepted}
 use Rattle.book_format.proofs.RankLaws.{book_rank_accepted}
 use Rattle.book_format.proofs.WritingLaws.{length_two, length-record_of}
 use Rattle.book_format.proofs.RecordLaws.{length-letters_at, length-records_from}
 use Rattle.book_format.proofs.LayOuts.{length-offset_bytes}
-use Rattle.book_format.proofs.Converting.{Convertible, converted_some, converted-bytes, conversion_opens, passing-at, size_of, length-converted}
+use Rattle.book_format.proofs.Converting.{Convertible, convertible, converted_some, converted-bytes, conversion_opens, passing-at, size_of, length-converted}
 use Rattle.book.proofs.converting.ConversionChecks.{end_at_inside}
 
 -- ---- what is left to write
@@ -67,6 +67,10 @@ offsets_left ed b c o i = offset_bytes (other ed) o (records_from ed b (c - i) i
 abbrev pub all_offsets : Edition → List ℕ → ℕ → List ℕ
 all_offsets ed b c = offset_bytes (other ed) 0 (records_from ed b c 0)
 
+-- what `Conversion` keeps is what a conversion asks
+pub converts : {ed : Edition} {b : List ℕ} → conversion_refusal ed b ≡ 0 → 0 < length b → Convertible ed b
+converts {ed} {b} z h = convertible ed b (λ e. omega arith) z
+
 -- the offsets of the records before record i are stored
 pub record Placing (ed : Edition) (b : List ℕ) (c : ℕ) (before : List ℕ) (at : ℕ) (out : List ℕ) (o i : ℕ) : Type 0 where
   pub storing : Storing before at (all_offsets ed b c) out (at + 2 * i) (offsets_left ed b c o i)
@@ -82,14 +86,9 @@ module _ {ed : Edition} {b : List ℕ} (w : Convertible ed b) {c : ℕ} (n : c �
       length-record_of (other ed) (kind_at b (offset b i)) (rank_at b (offset b i)) (lanes_at ed b (offset b i)) (letters_at ed b (offset b i))
       ∙ rw (length-letters_at ed b (offset b i) (end_at_inside ed b c i (offset b i) w.opens n h refl))
 
-  -- record i as the code stores it: o is where it begins, p the place of its letter count l
-  module _ (i : ℕ) {o p l : ℕ} (h : i < c) (q : o ≡ offset b i) (f : p ≡ count_place ed) (g : l ≡ two_at b (o + p)) where
-    pub rank_passed : RankOf (kind_at b o) (rank_at b o)
-    rank_passed = rw q (book_rank_accepted ed (kind_at b (offset b i)) (rank_at b (offset b i)) (passing-at ed b i w (omega arith)).rank)
-
-    -- its letters begin m bytes after it
-    pub end_inside : {m : ℕ} → m ≡ head_size ed → o + m + l ≤ length b
-    end_inside d = end_read_le ed b o f d g (end_at_inside ed b c i o w.opens n h q)
+  -- record i, which begins at o
+  pub rank_passed : (i : ℕ) {o : ℕ} → i < c → o ≡ offset b i → RankOf (kind_at b o) (rank_at b o)
+  rank_passed i h q = rw q (book_rank_accepted ed (kind_at b (offset b i)) (rank_at b (offset b i)) (passing-at ed b i w (omega arith)).rank)
 
   -- ---- the records, one after the other
 
