@@ -80,13 +80,7 @@ pub fn rewrite_to_end(
     let word = accepted_word(kind, rank, word)?;
     let counted = count(word);
     let steps = counted.steps;
-    if families.len() < steps {
-        return Err(Refusal::ListTooShort);
-    }
-    if places.len() < steps {
-        return Err(Refusal::ListTooShort);
-    }
-    if lengths.len() < steps {
+    if families.len() < steps || places.len() < steps || lengths.len() < steps {
         return Err(Refusal::ListTooShort);
     }
     if out.len() < counted.length {
