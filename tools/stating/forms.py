@@ -26,7 +26,7 @@ BLANKED = re.compile(r"""(?s)//[^\n]*|"(?:[^"\\\n]|\\.)*"|'(?:[^'\\\n]|\\[^'\n]+
 ATTRIBUTE = re.compile(r"""(?mx)^[ ]*(?:\#\[unsafe\(no_mangle\)\] | \#\[derive\((?:DERIVED)(?:,[ ](?:DERIVED))*\)\] | \#\[cycle\(\w+\)\] | \#!?\[tactic\([^\n"]*\)\])$"""
                        .replace("DERIVED", "Clone|Copy|Debug|Default|Drop|Eq|Hash|Ord|PartialEq|PartialOrd"))
 # the kit's macros, under whose names no other can stand: they write code within a function
-MACRO = re.compile(r"\b(?:e?print(?:ln)?|format|vec|write(?:ln)?|prove(?:_eq|_ne)?|assert(?:_eq|_ne)?|matches)!(?=[(\[])")
+MACRO = re.compile(r"\b(?:e?print(?:ln)?|format|vec|write(?:ln)?|prove(?:_eq|_ne)?|assert(?:_eq|_ne)?|matches|unreachable)!(?=[(\[])")
 UNUSED = re.compile(r"""(?<!&')\b(?:trait|unsafe|static|async|union|dyn|macro_rules)\b|\w!(?!=)|--|#.*|(?<!"C)"(?!C")""")
 # every item begins its line and has one of these forms, and their words stand nowhere else
 # a parameter of a type may be an impl of a trait, or a number
