@@ -24,12 +24,7 @@ fn refusal_of(answer: Preset) -> u8
     ensures { result ≡ refusal_of answer }
 {
     match answer {
-        Preset::Found {
-            kind: _,
-            rank: _,
-            start: _,
-            length: _,
-        } => 0,
+        Preset::Found { .. } => 0,
         Preset::Refused(refusal) => refusal,
     }
 }

@@ -1,7 +1,7 @@
 -- A piece of a listing, filled line by line: the piece from the first line on is the piece from the next line on,
 -- behind what is written already.
 --
--- Sections: lines; the line of a refused book; what is left of a piece; filling.
+-- Sections: lines; the line of a refused book; what is left of a piece; the line of a turn; filling.
 -- Assumes nothing.
 use mathlib.Core.Path.{◌≡◌, refl, sym, ap, ◌∙◌}
 use mathlib.Core.List.{List, [], ◌∷◌, ◌++◌}
@@ -25,7 +25,7 @@ use Rattle.listing_text.specs.Calls.{line_count_by, line_count, first_line, line
 use Rattle.listing_text.proofs.Pieces.{fitting_more, fitting_none, length-fitting_le}
 use Rattle.listing_text.proofs.Answered.{line_from}
 use Rattle.listing_text.proofs.Decimals.{length-decimal_byte}
-use Rattle.listing_text.proofs.Room.{longest, length-line_le}
+use Rattle.listing_text.proofs.Room.{length-line_le}
 
 -- ---- lines
 
@@ -72,10 +72,6 @@ stored_front : (o u v : List ℕ) (m : ℕ) → length u ≤ length o → Stored
 stored_front o u v m h p =
     let s : m ≡ length u = omega (arith, p.0) in
     (s, rw (p.1, sets-front u o h) (take-front u o m (sym s)))
-
-pub line-front : (ed : Edition) (b : List ℕ) (i : ℕ) (o v : List ℕ) (m : ℕ) → i < line_count ed b → longest ≤ length o → Stored o 0 (line ed b i) v m
-    → (m ≡ length (line ed b i)) × (take m v ≡ line ed b i)
-line-front ed b i o v m h g p = stored_front o (line ed b i) v m (omega (arith, length-line_le ed b i h)) p
 
 -- ---- the line of a refused book
 
@@ -155,47 +151,70 @@ module _ (ed : Edition) (b : List ℕ) (i : ℕ) (out : List ℕ) (at : ℕ) whe
       let e : at + length (line ed b i ++ text) ≡ at + length (line ed b i) + length text = rw length-append (omega arith) in
       rw (fitting_more ed b t i (length out - at) h, m, n, l, e, sets-append out at (line ed b i) text)
 
+-- ---- the line of a turn
+
+-- line i, made at the front of a buffer, which is then v, and has m bytes
+pub record LineMade (ed : Edition) (b : List ℕ) (i : ℕ) (v : List ℕ) (m : ℕ) : Type 0 where
+  pub size : m ≡ length (line ed b i)
+  pub text : take m v ≡ line ed b i
+  pub inside : m ≤ length v
+
+-- o is what opening the book answered, a what reading the preset of the line did, and u the buffer
+module _ (ed : Edition) (b : List ℕ) (i : ℕ) (o : Opened) (a : Preset) (u : List ℕ) (p : o ≡ checked_book ed b) (q : a ≡ checked_preset ed b (i - 1))
+    (h : i < line_count ed b) (g : 65536 ≡ length u) where
+  pub line_room : length (line_from b o i a) ≤ length u
+  line_room = rw (line-from ed b i p q) (omega (arith, length-line_le ed b i h))
+
+  pub line_made : (v : List ℕ) (m : ℕ) → Stored u 0 (line_from b o i a) v m → LineMade ed b i v m
+  line_made v m s =
+      let t : Stored u 0 (line ed b i) v m = rw (line-from ed b i p q) at s in
+      let f = stored_front u (line ed b i) v m (omega (arith, length-line_le ed b i h)) t in
+      let l : length v ≡ length u = ap length t.1 ∙ length-sets u 0 (line ed b i) in
+      record { size = f.0; text = f.1; inside = omega (arith, f.0, length-line_le ed b i h) }
+
 -- ---- filling
 
 -- lines up to `next` are written in `out` up to `end`
-pub record Filling (ed : Edition) (b : List ℕ) (first : ℕ) (o out : List ℕ) (next end left : ℕ) : Type 0 where
+pub record Filling (ed : Edition) (b : List ℕ) (first : ℕ) (o out : List ℕ) (next end : ℕ) : Type 0 where
   pub size : length out ≡ length o
   pub inside : end ≤ length out
-  pub rest : left ≡ line_count ed b - next
-  pub same : next_piece ed b first o ≡ piece_from ed b left next out end
+  pub same : next_piece ed b first o ≡ piece_from ed b (line_count ed b - next) next out end
 
-pub filling_none : {ed : Edition} {b : List ℕ} {first : ℕ} {o : List ℕ} {left : ℕ} → left ≡ line_count ed b - first → Filling ed b first o o first 0 left
-filling_none {ed} {b} {first = first} {o} e = record { size = refl; inside = omega arith; rest = e; same = next_piece-from ed b first o ∙ rw e }
+pub filling_none : {ed : Edition} {b : List ℕ} {first : ℕ} {o : List ℕ} → Filling ed b first o o first 0
+filling_none {ed} {b} {first = first} {o} = record { size = refl; inside = omega arith; same = next_piece-from ed b first o }
 
-module _ {ed : Edition} {b : List ℕ} {first : ℕ} {o out : List ℕ} {next end left : ℕ} (f : Filling ed b first o out next end left) where
-  pub filling_next : {m : ℕ} {u : List ℕ} {out' : List ℕ} {end' : ℕ} → 0 < left → (m ≡ length (line ed b next)) × (u ≡ line ed b next) → m ≤ length out - end
-      → Stored out end u out' end' → Filling ed b first o out' (next + 1) end' (left - 1)
-  filling_next {m} {u} {out'} {end'} h q room p =
-      let t : left ≡ suc (left - 1) = omega arith in
-      let l : length (line ed b next) ≤ length out - end = omega (arith, q.0) in
-      let k : length u ≡ length (line ed b next) = ap length q.1 in
-      let e : end' ≡ end + length (line ed b next) = omega (arith, p.0) in
-      let w : out' ≡ sets out end (line ed b next) = rw q.1 at p.1 in
-      let i = f.inside in
-      let r = f.rest in
-      record {
-        size = ap length w ∙ length-sets out end (line ed b next) ∙ f.size;
-        inside = rw w (rw length-sets (omega (arith, p.0)));
-        rest = omega arith;
-        same = f.same ∙ ap (λ (m : ℕ). piece_from ed b m next out end) t ∙ piece_from_next ed b next out end (left - 1) l ∙ rw (w, add-one next, e);
-      }
+module _ {ed : Edition} {b : List ℕ} {first : ℕ} {o out : List ℕ} {next end : ℕ} (f : Filling ed b first o out next end) where
+  -- the line of a turn, made in a buffer v
+  module _ {v : List ℕ} {m : ℕ} (h : next < line_count ed b) (made : LineMade ed b next v m) where
+    lines_left : line_count ed b - next ≡ suc (line_count ed b - (next + 1))
+    lines_left = omega arith
 
-  pub filling_full : {m : ℕ} → 0 < left → m ≡ length (line ed b next) → length out - end < m
-      → ((stopped next end left out).answer ≡ (next_piece ed b first o).answer) × (out ≡ (next_piece ed b first o).bytes)
-  filling_full h e g =
-      let t : left ≡ suc (left - 1) = omega arith in
-      let q : next_piece ed b first o ≡ stopped next end left out =
-      f.same ∙ ap (λ (s : ℕ). piece_from ed b s next out end) t ∙ piece_from_full ed b next out end (left - 1) (omega arith)
-      ∙ ap (λ (s : ℕ). stopped next end s out) (sym t) in
-      rw q (refl, refl)
+    pub filling_next : m ≤ length out - end → {out' : List ℕ} {end' : ℕ} → Stored out end (take m v) out' end' → Filling ed b first o out' (next + 1) end'
+    filling_next room {out'} {end'} p =
+        let t = line_count ed b - (next + 1) in
+        let l : length (line ed b next) ≤ length out - end = omega (arith, made.size) in
+        let k : length (take m v) ≡ length (line ed b next) = ap length made.text in
+        let e : end' ≡ end + length (line ed b next) = omega (arith, p.0) in
+        let w : out' ≡ sets out end (line ed b next) = rw made.text at p.1 in
+        let i = f.inside in
+        record {
+          size = ap length w ∙ length-sets out end (line ed b next) ∙ f.size;
+          inside = rw w (rw length-sets (omega (arith, p.0)));
+          same = f.same ∙ ap (λ (m : ℕ). piece_from ed b m next out end) lines_left ∙ piece_from_next ed b next out end t l ∙ rw (w, add-one next, e);
+        }
 
-  pub filling_done : left ≤ 0 → ((stopped next end left out).answer ≡ (next_piece ed b first o).answer) × (out ≡ (next_piece ed b first o).bytes)
-  filling_done h =
-      let t : left ≡ 0 = omega arith in
-      let q : next_piece ed b first o ≡ stopped next end left out = f.same ∙ rw t (piece_from_none ed b next out end) in
-      rw q (refl, refl)
+    pub filling_full : {left : ℕ} → left ≡ line_count ed b - next → length out - end < m
+        → ((stopped next end left out).answer ≡ (next_piece ed b first o).answer) × (out ≡ (next_piece ed b first o).bytes)
+    filling_full {left} e g =
+        let t = line_count ed b - (next + 1) in
+        let q : next_piece ed b first o ≡ stopped next end left out =
+        f.same ∙ ap (λ (s : ℕ). piece_from ed b s next out end) lines_left ∙ piece_from_full ed b next out end t (omega (arith, made.size))
+        ∙ ap (λ (s : ℕ). stopped next end s out) (sym lines_left ∙ sym e) in
+        rw q (refl, refl)
+
+  pub filling_done : {last : ℕ} → last ≡ next → line_count ed b ≤ next
+      → ((stopped last end 0 out).answer ≡ (next_piece ed b first o).answer) × (out ≡ (next_piece ed b first o).bytes)
+  filling_done e h =
+      let t : line_count ed b - next ≡ 0 = omega arith in
+      let q : next_piece ed b first o ≡ stopped next end 0 out = f.same ∙ rw t (piece_from_none ed b next out end) in
+      rw (e, q) (refl, refl)

@@ -5,6 +5,11 @@ use native.Mathlib.Omega.{arith}
 use Rattle.book_format.proofs.PresetLaws.{PresetFound, found, found_rank, found_word, found_inside, found_small}
 use Rattle.listing_lines.proofs.presets.PresetLines.{line_by-found, line_by-refused}
 use Rattle.listing_lines.proofs.presets.put_preset.Goals as goal
+use Rattle.listing_lines.proofs.presets.put_preset.Goals.{In-Found}
+
+-- the preset that was found
+preset : (c : In-Found) → PresetFound c.requires.0 c.args.book.now c.args.number c.in-Found.kind c.in-Found.rank c.in-Found.start c.in-Found.letter_count
+preset c = found (sym c.in-Found.is ∙ c.requires.1.0)
 
 pub put_refused-requires : goal.put_refused-requires
 put_refused-requires c =
@@ -16,25 +21,14 @@ returns-in_default c =
     c.put_refused.ensures
 
 pub overflow_add-end : goal.overflow_add-end
-overflow_add-end c =
-    -- the preset that was found
-    let preset : PresetFound c.requires.0 c.args.book.now c.args.number c.in-Found.kind c.in-Found.rank c.in-Found.start c.in-Found.letter_count =
-    found (sym c.in-Found.is ∙ c.requires.1.0) in
-    omega (arith, found_small preset)
+overflow_add-end c = omega (arith, found_small (preset (goal.at.overflow_add-end c).In-Found))
 
 pub slice_bounds-put_word-end : goal.slice_bounds-put_word-end
-slice_bounds-put_word-end c =
-    -- the preset that was found
-    let preset : PresetFound c.requires.0 c.args.book.now c.args.number c.in-Found.kind c.in-Found.rank c.in-Found.start c.in-Found.letter_count =
-    found (sym c.in-Found.is ∙ c.requires.1.0) in
-    found_inside preset
+slice_bounds-put_word-end c = found_inside (preset (goal.at.slice_bounds-put_word-end c).In-Found)
 
 pub put_word-requires : goal.put_word-requires
 put_word-requires c =
-    -- the preset that was found
-    let preset : PresetFound c.requires.0 c.args.book.now c.args.number c.in-Found.kind c.in-Found.rank c.in-Found.start c.in-Found.letter_count =
-    found (sym c.in-Found.is ∙ c.requires.1.0) in
-    let f = preset in
+    let f = preset (goal.at.put_word-requires c).In-Found in
     (found_rank f, found_word f, rw (line_by-found _ _ c.in-Found.is) c.requires.1.1)
 
 pub returns : goal.returns
