@@ -1,6 +1,6 @@
 // The rewriting to its end.
 ghost use Rattle.std.specs.Prelude.{◌≡◌, [], ℕ, ◌≤◌, pos};
-ghost use Rattle.coxeter.specs.declared.Answer.TheVariants.{Length};
+ghost use Rattle.coxeter.specs.answers.Answer.{Length};
 ghost use Rattle.traces.specs.Traces.{number_of_steps};
 ghost use Rattle.c_api.specs.Calls.{number_of, rewriting_to_end_listed};
 

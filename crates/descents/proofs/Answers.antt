@@ -8,8 +8,8 @@ use native.Mathlib.Nat.{lt_of_not-le}
 use native.Mathlib.Decide.{dec_le}
 use native.Mathlib.Omega.{arith}
 use lib.ListN.{length}
-use Rattle.coxeter.specs.declared.Answer.{Answer}
-use Rattle.coxeter.specs.declared.Answer.TheVariants as answer
+use Rattle.coxeter.specs.answers.Answer.{Answer}
+use Rattle.coxeter.specs.answers.Answer as answer
 use Rattle.coxeter.specs.Calls.{Yields, front, writes}
 use Rattle.coxeter.proofs.Outcomes.{writes_short, writes-written}
 use Rattle.coxeter.proofs.Writes.{length_or_refused}

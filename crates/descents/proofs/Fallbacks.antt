@@ -13,7 +13,7 @@ use Rattle.coxeter.specs.Checks.{RankOf}
 use Rattle.coxeter.specs.NormalForm.{word_normal_form}
 use Rattle.coxeter.proofs.Fronts.{AtFront}
 use Rattle.coxeter.proofs.Theorems.{window_passes, normal_form-fits}
-use Rattle.shortest_words.specs.declared.Fallback.{Fallback}
+use Rattle.shortest_words.specs.answers.Fallback.{Fallback}
 use Rattle.shortest_words.proofs.Verdicts.{Decided}
 use Rattle.descents.proofs.walk.Deciding.{DecideRequires}
 

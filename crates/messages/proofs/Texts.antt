@@ -14,8 +14,8 @@ use lib.Dec.{T, leb, leb→le}
 use lib.ListN.{length, get_or, take, drop, length-append, get_or-eq_default}
 use lib.Seq.{take_all, take_at, drop_at}
 use borrow.Author.Tests.{lt-ltb, le-ltb}
-use Rattle.coxeter.specs.declared.Answer.{Answer}
-use Rattle.coxeter.specs.declared.Answer.TheVariants.{Length, Refused}
+use Rattle.coxeter.specs.answers.Answer.{Answer}
+use Rattle.coxeter.specs.answers.Answer.{Length, Refused}
 use Rattle.coxeter.specs.Kinds.{up}
 use Rattle.coxeter.specs.Checks.{too_short}
 use Rattle.coxeter.specs.Calls.{Yields, answer_of, written, writes, front}

@@ -12,7 +12,9 @@ use native.Mathlib.Omega.{arith}
 use lib.ListN.{length, take, drop, length-append, length-drop}
 use lib.Seq.{take-append_seam}
 use borrow.Author.Tests.{ne_eqb, lt-leb, le-leb}
-use Rattle.coxeter.specs.Kinds.{Kind, A, B, D, kind_of, least}
+use Rattle.coxeter.specs.declared.Kind.{Kind}
+use Rattle.coxeter.specs.declared.Kind.TheVariants.{A, B, D}
+use Rattle.coxeter.specs.Kinds.{kind_of, least}
 use Rattle.coxeter.specs.Checks.{check, ◌then◌, rank_refusal, word_refusal}
 use Rattle.coxeter.specs.Calls.{front}
 use Rattle.rules.specs.declared.Rewrite.TheVariants.{Used, NoneFits, Refused}

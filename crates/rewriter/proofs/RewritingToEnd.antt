@@ -6,14 +6,14 @@ use mathlib.Core.List.{List}
 use Prim.Native.Nat.{ℕ, ◌≤◌, ◌<◌}
 use lib.ListN.{length}
 use borrow.Author.Tests.{eq-eqb, ne_eqb, lt-ltb, le-ltb}
-use Rattle.coxeter.specs.declared.Answer.TheVariants as answer
+use Rattle.coxeter.specs.answers.Answer as answer
 use Rattle.coxeter.specs.Kinds.{kind_of}
 use Rattle.coxeter.specs.Checks.{◌then◌, too_short, rank_refusal, word_refusal}
 use Rattle.coxeter.specs.Calls.{front, written}
 use Rattle.coxeter.proofs.Acceptance.{two_accepted}
 use Rattle.coxeter.proofs.Outcomes.{answer_refused, answer_length}
 use Rattle.rules.specs.Runs.{AcceptedWord}
-use Rattle.traces.specs.declared.ToEnd.TheVariants.{Ended, Refused}
+use Rattle.traces.specs.answers.ToEnd.{Ended, Refused}
 use Rattle.traces.specs.Traces.{trace, families_of, places_of, lengths_of, too_few_places, to_end_of, traced_by, rewriting_to_end, number_of_steps, TraceYields}
 
 -- r is the refusal that was computed

@@ -8,7 +8,7 @@ use native.Mathlib.Nat.{zero-add}
 use denote.Ref.{Bor}
 use borrow.Rule.Slice.PartAt.{sl_partˢ}
 use borrow.Rule.Slice.Shared.{by_byte}
-use Rattle.coxeter.specs.declared.Choice.TheVariants as choices
+use Rattle.coxeter.specs.answers.Choice as choices
 use Rattle.coxeter.specs.Calls.{choice, Better}
 use Rattle.coxeter.proofs.Orders.{choice_exactly}
 

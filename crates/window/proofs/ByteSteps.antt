@@ -14,7 +14,9 @@ use lib.ListN.{length, get_or, set}
 use lib.Signed.{mag}
 use mir.Syntax.{w8}
 use mir.Val.{to_z, of_z}
-use Rattle.coxeter.specs.Kinds.{Kind, A, B, D, kind_of, lanes}
+use Rattle.coxeter.specs.declared.Kind.{Kind}
+use Rattle.coxeter.specs.declared.Kind.TheVariants.{A, B, D}
+use Rattle.coxeter.specs.Kinds.{kind_of, lanes}
 use Rattle.coxeter.specs.Windows.{from, swap, negate_first, swap_negate, act}
 use Rattle.coxeter.specs.Checks.{WindowOf}
 use Rattle.coxeter.proofs.KindLaws.{lanes_le_add_one, kind_of-one, kind_of-two, kind_of_three}

@@ -2,7 +2,8 @@
 ghost use Rattle.std.specs.Prelude.{◌≡◌, ◌+◌, ◌-◌, ◌*◌, ◌/◌, ◌^◌, ◌≤◌, ◌<◌, length};
 ghost use Rattle.std.specs.Int.Bits.{bit_or};
 ghost use Rattle.std.specs.Int.Count.{ones};
-ghost use Rattle.coxeter.specs.Kinds.{B, kind_of, lanes};
+ghost use Rattle.coxeter.specs.declared.Kind.TheVariants.{B};
+ghost use Rattle.coxeter.specs.Kinds.{kind_of, lanes};
 ghost use Rattle.coxeter.specs.Length.{inversions, negative_sum_pairs, negatives, crossings, window_length};
 ghost use Rattle.coxeter.specs.Checks.{WindowOf};
 ghost use Rattle.coxeter.specs.Calls.{counted_of};

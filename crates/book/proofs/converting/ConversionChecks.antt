@@ -13,7 +13,7 @@ use borrow.Author.Tests.{eq-eqb, ne_eqb, lt-ltb, le-ltb}
 use Rattle.coxeter.specs.Checks.{check}
 use Rattle.coxeter.proofs.Refusals.{then_some, then_none}
 use Rattle.book_format.specs.declared.Edition.{Edition}
-use Rattle.book_format.specs.declared.Preset.TheVariants as preset
+use Rattle.book_format.specs.answers.Preset as preset
 use Rattle.book_format.specs.Books.{count, offset}
 use Rattle.book_format.specs.Books.{end_at, too_large, book_refusal}
 use Rattle.book_format.specs.Calls.{checked_record}

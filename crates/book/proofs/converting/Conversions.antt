@@ -12,7 +12,7 @@ use native.Mathlib.Omega.{arith}
 use lib.ListN.{length, get_or, take, drop, length-append}
 use lib.Seq.{sets, length-sets}
 use Rattle.coxeter.specs.Checks.{RankOf}
-use Rattle.coxeter.specs.declared.Answer.TheVariants as answer
+use Rattle.coxeter.specs.answers.Answer as answer
 use Rattle.coxeter.proofs.Lists.{Storing, storing_all, sets_next}
 use Rattle.coxeter.proofs.Outcomes.{writes-refused, writes_short, writes_done, writes-written}
 use Rattle.coxeter.proofs.FrontLaws.{sets-front}

@@ -15,9 +15,9 @@ use Rattle.coxeter.specs.Kinds.{up}
 use Rattle.coxeter.proofs.Basics.{up-append}
 use Rattle.coxeter.proofs.Lists.{sets_next}
 use Rattle.book_format.specs.declared.Edition.{Edition}
-use Rattle.book_format.specs.declared.Preset.{Preset}
+use Rattle.book_format.specs.answers.Preset.{Preset}
 use Rattle.book_format.specs.declared.Slot.{Slot}
-use Rattle.book_format.specs.declared.Preset.TheVariants as preset
+use Rattle.book_format.specs.answers.Preset as preset
 use Rattle.book_format.specs.Books.{count, book_refusal}
 use Rattle.book_format.specs.Calls.{checked_preset, fields_of, preset_fields}
 use Rattle.book_format.proofs.BookLaws.{accepted}

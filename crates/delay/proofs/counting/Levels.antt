@@ -7,7 +7,8 @@ use mathlib.Core.List.{List, ◌++◌}
 use Prim.Native.Nat.{ℕ, suc, ◌+◌, ◌^◌, ◌≤◌, ◌<◌}
 use native.Mathlib.Omega.{arith}
 use lib.ListN.{length, take, drop}
-use Rattle.coxeter.specs.Kinds.{Kind, kind_of, lanes, least}
+use Rattle.coxeter.specs.declared.Kind.{Kind}
+use Rattle.coxeter.specs.Kinds.{kind_of, lanes, least}
 use Rattle.coxeter.specs.Length.{greatest_length}
 use Rattle.coxeter.specs.NormalForm.{levels}
 use Rattle.coxeter.proofs.Acceptance.{lanes_le}

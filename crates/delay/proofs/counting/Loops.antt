@@ -10,7 +10,7 @@ use native.Mathlib.Decide.{dec_lt}
 use native.Mathlib.Numerals.{add-one}
 use borrow.Author.Tests.{ne_eqb}
 use lib.ListN.{get_or, set}
-use Rattle.coxeter.specs.Kinds.{Kind}
+use Rattle.coxeter.specs.declared.Kind.{Kind}
 use Rattle.coxeter.specs.Length.{one}
 use Rattle.distribution.specs.declared.Combination.{Combination}
 use Rattle.distribution.specs.declared.Combination.TheVariants.{Difference, Sum}

@@ -14,8 +14,8 @@ use lib.IntN.{ℤ}
 use lib.ListN.{length, get_or, take, drop, drop_of_length-le}
 use lib.Seq.{take-length, length-take-le}
 use borrow.Author.Tests.{ne_eqb, le-ltb, not-true, not-false}
-use Rattle.coxeter.specs.declared.Answer.{Answer}
-use Rattle.coxeter.specs.declared.Answer.TheVariants as answer
+use Rattle.coxeter.specs.answers.Answer.{Answer}
+use Rattle.coxeter.specs.answers.Answer as answer
 use Rattle.coxeter.specs.Kinds.{kind_of}
 use Rattle.coxeter.specs.Windows.{product, inverse}
 use Rattle.coxeter.specs.Checks.{check, ◌then◌, too_long, wrong_letter, rank_refusal, word_refusal, window_refusal, RankOf, WordOf}

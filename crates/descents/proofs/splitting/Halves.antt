@@ -13,8 +13,8 @@ use lib.IntN.{ℤ}
 use lib.ListN.{length, take, drop, length-append}
 use lib.Seq.{take_at}
 use borrow.Author.Tests.{ltb-true}
-use Rattle.coxeter.specs.declared.Answer.{Answer}
-use Rattle.coxeter.specs.declared.Answer.TheVariants as answer
+use Rattle.coxeter.specs.answers.Answer.{Answer}
+use Rattle.coxeter.specs.answers.Answer as answer
 use Rattle.coxeter.specs.Kinds.{kind_of}
 use Rattle.coxeter.specs.Windows.{window, product, inverse}
 use Rattle.coxeter.specs.Length.{window_length}
@@ -27,8 +27,8 @@ use Rattle.coxeter.proofs.Inverses.{inverse_accepted}
 use Rattle.coxeter.proofs.Lengths.{length-normal_form}
 use Rattle.coxeter.proofs.Refusals.{then_none}
 use Rattle.coxeter.proofs.Theorems.{window_passes, inverse_passes}
-use Rattle.shortest_words.specs.declared.Split.{Split}
-use Rattle.shortest_words.specs.declared.Split.TheVariants.{Words, Refused}
+use Rattle.shortest_words.specs.answers.Split.{Split}
+use Rattle.shortest_words.specs.answers.Split.{Words, Refused}
 use Rattle.shortest_words.specs.Allowed.{allows}
 use Rattle.shortest_words.specs.Split.{first_word, second_word}
 use Rattle.shortest_words.specs.SplitCalls.{split_outcome, SplitYields}

@@ -13,7 +13,7 @@ use Rattle.coxeter.specs.Checks.{wrong_letter, RankOf, WordOf, WindowOf}
 use Rattle.coxeter.specs.Calls.{front, same_window}
 use Rattle.coxeter.proofs.Acceptance.{Ranked, rank_accepted, letters_accepted, lanes_le}
 use Rattle.coxeter.proofs.Levels.{Accepted, accepted_of_refusal}
-use Rattle.shortest_words.specs.declared.Fallback.TheVariants.{Kept, No, Refused}
+use Rattle.shortest_words.specs.answers.Fallback.{Kept, No, Refused}
 use Rattle.shortest_words.proofs.FallbackWalk.{left_over, places_kept, marked}
 use Rattle.shortest_words.proofs.Verdicts.{Decided, decided_no, decided_short, decided_kept}
 

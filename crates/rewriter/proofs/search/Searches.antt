@@ -11,7 +11,8 @@ use native.Mathlib.Omega.{arith}
 use lib.Dec.{eqb}
 use lib.ListN.{length, get_or, drop, length-append, drop_of_length-le}
 use borrow.Author.Tests.{eq-eqb, ne_eqb}
-use Rattle.coxeter.specs.Kinds.{Kind, pick, least}
+use Rattle.coxeter.specs.declared.Kind.{Kind}
+use Rattle.coxeter.specs.Kinds.{pick, least}
 use Rattle.coxeter.specs.Checks.{wrong_letter}
 use Rattle.coxeter.specs.NormalForm.{block, levels, last_index}
 use Rattle.coxeter.proofs.KindLaws.{levels_le}

@@ -10,7 +10,8 @@ use native.Mathlib.Nat.{zero-add}
 use native.Mathlib.Omega.{arith}
 use lib.ListN.{length, get_or, take, drop, set, length-append, length-set, length-drop, drop_of_length-le}
 use lib.Seq.{length-take-le, take-suc-set, take-append-le, append_snoc, sets}
-use Rattle.coxeter.specs.Kinds.{Kind, kind_of}
+use Rattle.coxeter.specs.declared.Kind.{Kind}
+use Rattle.coxeter.specs.Kinds.{kind_of}
 use Rattle.coxeter.specs.Checks.{wrong_letter}
 use Rattle.coxeter.specs.Calls.{front}
 use Rattle.coxeter.proofs.Acceptance.{Ranked, rank_accepted, letters_accepted, length_accepted}

@@ -12,7 +12,8 @@ use lib.ListN.{length, get_or, take, drop, set, drop_of_length-le}
 use lib.Seq.{take-suc-set, take_all}
 use mir.Syntax.{w8}
 use mir.Val.{to_z}
-use Rattle.coxeter.specs.Kinds.{Kind, lanes, up}
+use Rattle.coxeter.specs.declared.Kind.{Kind}
+use Rattle.coxeter.specs.Kinds.{lanes, up}
 use Rattle.coxeter.specs.Windows.{act, window_from, identity, window}
 use Rattle.coxeter.specs.Checks.{WindowOf}
 use Rattle.coxeter.proofs.Basics.{up-append}

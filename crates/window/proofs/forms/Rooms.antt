@@ -10,13 +10,14 @@ use lib.Dec.{ltb}
 use lib.IntN.{ℤ}
 use lib.ListN.{length, take}
 use borrow.Author.Tests.{ltb-true, ltb-false}
-use Rattle.coxeter.specs.declared.Answer.{Answer}
-use Rattle.coxeter.specs.declared.Answer.TheVariants.{Length, Refused}
+use Rattle.coxeter.specs.answers.Answer.{Answer}
+use Rattle.coxeter.specs.answers.Answer.{Length, Refused}
 use Rattle.coxeter.proofs.Levels.{accepted_of_refusal}
 use Rattle.coxeter.proofs.Acceptance.{lanes_le}
 use Rattle.coxeter.proofs.Outcomes.{writes_short, writes-written, writes_passed}
 use Rattle.coxeter.proofs.Lengths.{length-normal_form}
-use Rattle.coxeter.specs.Kinds.{Kind, kind_of}
+use Rattle.coxeter.specs.declared.Kind.{Kind}
+use Rattle.coxeter.specs.Kinds.{kind_of}
 use Rattle.coxeter.specs.Length.{window_length}
 use Rattle.coxeter.specs.Checks.{RankOf, WindowOf}
 use Rattle.coxeter.specs.NormalForm.{normal_form}

@@ -12,7 +12,9 @@ use native.Mathlib.Omega.{arith}
 use lib.Dec.{ltb}
 use lib.IntN.{ℤ, pos, nat_abs}
 use lib.ListN.{length, length-map, drop}
-use Rattle.coxeter.specs.Kinds.{Kind, A, B, D, pick, kind_of, lanes}
+use Rattle.coxeter.specs.declared.Kind.{Kind}
+use Rattle.coxeter.specs.declared.Kind.TheVariants.{A, B, D}
+use Rattle.coxeter.specs.Kinds.{pick, kind_of, lanes}
 use Rattle.coxeter.specs.Length.{later, negative, one, later_than, inversions, negative_sum_pairs, negatives, crossings, window_length}
 use Rattle.coxeter.specs.Checks.{WindowOf}
 use Rattle.coxeter.proofs.KindLaws.{lanes_le_add_one, kind_of-one, kind_of-two, kind_of_three}
@@ -20,7 +22,7 @@ use Rattle.coxeter.proofs.Levels.{Between, Distinct, accepted_of_refusal, refusa
 use Rattle.coxeter.proofs.PairWeights.{weight, weights, pair_weights, sign_weight, pair_weights_le}
 use Rattle.coxeter.proofs.PairWeights.{inversions_add_negative_sum_pairs, length_by_weights, negative_sum_pairs_of_negatives_zero}
 use Rattle.coxeter.specs.Calls.{counted_of}
-use Rattle.coxeter.specs.declared.Counted.TheVariants as counted
+use Rattle.coxeter.specs.answers.Counted as counted
 use Rattle.window.proofs.Squares.{square_le, square_le_4096}
 
 -- ---- one entry against those behind it

@@ -11,7 +11,9 @@ use native.Mathlib.Decide.{dec_le}
 use native.Mathlib.Numerals.{add-one}
 use native.Mathlib.Omega.{arith}
 use borrow.Author.Tests.{le-leb, lt-leb, le-ltb}
-use Rattle.coxeter.specs.Kinds.{Kind, B, D, least}
+use Rattle.coxeter.specs.declared.Kind.{Kind}
+use Rattle.coxeter.specs.declared.Kind.TheVariants.{B, D}
+use Rattle.coxeter.specs.Kinds.{least}
 use Rattle.coxeter.specs.NormalForm.{rise, fall, block}
 use Rattle.coxeter.proofs.LetterRuns.{slide, rise-span, fall-slide, span_cons, span_nil, slide_cons, slide_nil}
 use Rattle.coxeter.proofs.Lists.{Stored, Storing, stored_of_storing, storing_all}

@@ -10,7 +10,9 @@ use lib.IntN.{ℤ}
 use lib.ListN.{length, get_or}
 use lib.Pow.{pow_pos}
 use lib.Seq.{sets}
-use Rattle.coxeter.specs.Kinds.{Kind, A, B, D, kind_of, lanes}
+use Rattle.coxeter.specs.declared.Kind.{Kind}
+use Rattle.coxeter.specs.declared.Kind.TheVariants.{A, B, D}
+use Rattle.coxeter.specs.Kinds.{kind_of, lanes}
 use Rattle.coxeter.specs.Checks.{RankOf, WindowOf}
 use Rattle.coxeter.specs.Calls.{front}
 use Rattle.coxeter.specs.NormalForm.{levels, normal_form}

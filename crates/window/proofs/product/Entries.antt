@@ -16,7 +16,9 @@ use lib.Seq.{sets, length-take-le, get_or-take}
 use mir.Syntax.{w8, w64}
 use mir.Val.{Fits, SFits, to_z, of_z}
 use borrow.Author.Tests.{ne_eqb}
-use Rattle.coxeter.specs.Kinds.{Kind, A, B, D, pick, kind_of}
+use Rattle.coxeter.specs.declared.Kind.{Kind}
+use Rattle.coxeter.specs.declared.Kind.TheVariants.{A, B, D}
+use Rattle.coxeter.specs.Kinds.{pick, kind_of}
 use Rattle.coxeter.specs.Windows.{at, product, signed, inverse}
 use Rattle.coxeter.specs.Length.{negative}
 use Rattle.coxeter.specs.Checks.{WindowOf, negative_in_A}

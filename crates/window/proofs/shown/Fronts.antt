@@ -16,7 +16,8 @@ use Rattle.coxeter.proofs.Levels.{accepted_of_refusal, window_accepted, refusal_
 use Rattle.coxeter.proofs.Theorems.{window_passes}
 use Rattle.coxeter.proofs.Acceptance.{lanes_le}
 use Rattle.coxeter.proofs.FrontLaws.{length-take-front, front_parts, front_again}
-use Rattle.coxeter.specs.Kinds.{kind_of, lanes, Kind}
+use Rattle.coxeter.specs.declared.Kind.{Kind}
+use Rattle.coxeter.specs.Kinds.{kind_of, lanes}
 use Rattle.coxeter.specs.Windows.{window, window_from, product, inverse}
 use Rattle.coxeter.specs.Checks.{window_refusal, RankOf, WindowOf}
 use Rattle.coxeter.specs.Calls.{front}

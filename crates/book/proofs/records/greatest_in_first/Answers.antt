@@ -3,7 +3,7 @@
 use mathlib.Core.Path.{◌≡◌, refl}
 use Prim.Native.Nat.{ℕ}
 use Rattle.coxeter.proofs.KindLaws.{kind_of-one, by_kind_else}
-use Rattle.coxeter.specs.Kinds.{Kind}
+use Rattle.coxeter.specs.declared.Kind.{Kind}
 use Rattle.book_format.specs.declared.Edition.TheVariants.{First}
 use Rattle.book_format.specs.Books.{greatest_in_book}
 use Rattle.book.proofs.records.greatest_in_first.Goals as goal

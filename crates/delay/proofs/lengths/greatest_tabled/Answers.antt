@@ -3,7 +3,7 @@
 use mathlib.Core.Path.{◌≡◌, refl}
 use Prim.Native.Nat.{ℕ}
 use Rattle.coxeter.proofs.KindLaws.{kind_of-one, by_kind_else}
-use Rattle.coxeter.specs.Kinds.{Kind}
+use Rattle.coxeter.specs.declared.Kind.{Kind}
 use Rattle.distribution.specs.Calls.{greatest_tabled}
 use Rattle.delay.proofs.lengths.greatest_tabled.Goals as goal
 

@@ -1,7 +1,8 @@
 -- `stripping::back` is the lowest neighbour of a step, in three cases: below n, step n of A or B, step n of D.
 -- Assumes nothing.
 use mathlib.Core.Path.{◌≡◌}
-use Rattle.coxeter.specs.Kinds.{D, kind_of}
+use Rattle.coxeter.specs.declared.Kind.TheVariants.{D}
+use Rattle.coxeter.specs.Kinds.{kind_of}
 use native.Mathlib.Omega.{arith}
 use Rattle.coxeter.proofs.KindLaws.{kind_of-one_or_two, kind_of-below, kind_of-above}
 use Rattle.descents.proofs.stripping.Turns.{back_below, back_identity, back_fork}

@@ -5,7 +5,8 @@ use mathlib.Core.Path.{◌≡◌}
 use mathlib.Core.List.{List}
 use Prim.Native.Nat.{ℕ}
 use lib.ListN.{length}
-use Rattle.coxeter.specs.Kinds.{Kind, kind_of}
+use Rattle.coxeter.specs.declared.Kind.{Kind}
+use Rattle.coxeter.specs.Kinds.{kind_of}
 use Rattle.rewriter.proofs.carrying.CarriedSteps.{noted}
 use Rattle.rewriter.proofs.carrying.Inserting.{Moved}
 use Rattle.rewriter.proofs.carrying.insert.Given as goal

@@ -4,7 +4,8 @@ use mathlib.Core.Path.{◌≡◌}
 use mathlib.Core.Logic.{⊎_elim}
 use native.Mathlib.Omega.{arith}
 use borrow.Author.Tests.{eq-eqb, ne_eqb, lt-ltb, le-ltb}
-use Rattle.coxeter.specs.Kinds.{kind_of, D}
+use Rattle.coxeter.specs.declared.Kind.TheVariants.{D}
+use Rattle.coxeter.specs.Kinds.{kind_of}
 use Rattle.coxeter.proofs.KindLaws.{kind_of-one_or_two, kind_of-below, kind_of-above}
 use Rattle.traces.proofs.PartBlocks.{index_by}
 use Rattle.rewriter.proofs.ending.index_of.Goals as goal

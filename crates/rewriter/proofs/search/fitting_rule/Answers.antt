@@ -4,7 +4,8 @@ use mathlib.Core.List.{List}
 use Prim.Native.Nat.{ℕ}
 use lib.ListN.{get_or}
 use borrow.Author.Tests.{eq-eqb, ne_eqb}
-use Rattle.coxeter.specs.Kinds.{Kind, kind_of}
+use Rattle.coxeter.specs.declared.Kind.{Kind}
+use Rattle.coxeter.specs.Kinds.{kind_of}
 use Rattle.coxeter.specs.Checks.{WordOf}
 use Rattle.coxeter.proofs.Acceptance.{Ranked, letters_accepted}
 use Rattle.coxeter.proofs.LetterLaws.{letter_at}

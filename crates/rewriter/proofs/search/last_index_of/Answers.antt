@@ -2,7 +2,7 @@
 -- Assumes nothing.
 use mathlib.Core.Path.{◌≡◌, refl}
 use Prim.Native.Nat.{ℕ, ◌*◌, ◌-◌}
-use Rattle.coxeter.specs.Kinds.{Kind}
+use Rattle.coxeter.specs.declared.Kind.{Kind}
 use Rattle.coxeter.specs.NormalForm.{last_index}
 use Rattle.coxeter.proofs.KindLaws.{kind_of-one, by_kind_else}
 use Rattle.rewriter.proofs.search.last_index_of.Goals as goal

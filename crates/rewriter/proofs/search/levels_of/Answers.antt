@@ -3,7 +3,8 @@
 use mathlib.Core.Path.{◌≡◌}
 use mathlib.Core.Logic.{⊎_elim}
 use native.Mathlib.Omega.{arith}
-use Rattle.coxeter.specs.Kinds.{kind_of, D}
+use Rattle.coxeter.specs.declared.Kind.TheVariants.{D}
+use Rattle.coxeter.specs.Kinds.{kind_of}
 use Rattle.coxeter.proofs.KindLaws.{kind_of-one_or_two, kind_of-below, kind_of-above}
 use Rattle.rewriter.proofs.search.levels_of.Goals as goal
 use Rattle.rewriter.proofs.search.levels_of.Goals.{in_default-via-then-kind-lt1, in_default-via-else-kind-lt1+else-kind-lt3}

@@ -5,7 +5,8 @@ use Rattle.coxeter.proofs.KindLaws.{kind_of-one_or_two, kind_of-below, kind_of-a
 use Rattle.coxeter.proofs.PeelingByPlaces.{sign_changed}
 use native.Mathlib.Omega.{arith}
 use mathlib.Core.Path.{◌≡◌}
-use Rattle.coxeter.specs.Kinds.{D, kind_of}
+use Rattle.coxeter.specs.declared.Kind.TheVariants.{D}
+use Rattle.coxeter.specs.Kinds.{kind_of}
 use Rattle.window.proofs.normal.has_changed_sign.Goals as goal
 use Rattle.window.proofs.normal.has_changed_sign.Goals.{in_default-via-then-kind-lt1, in_default-via-else-kind-lt1+else-kind-lt3}
 

@@ -1,9 +1,9 @@
--- `checks::word_refusal` makes checks 7 and 8 in this order.
+-- `checks::check_word` makes checks 7 and 8 in this order.
 -- Assumes nothing.
 use mathlib.Core.Path.{sym, ◌∙◌}
 use borrow.Author.Tests.{lt-ltb, le-ltb}
 use Rattle.coxeter.specs.Checks.{word_refusal, too_long}
-use Rattle.refusals.proofs.checks.word_refusal.Goals as goal
+use Rattle.refusals.proofs.checks.check_word.Goals as goal
 
 pub returns-then-word-gt-LONGEST : goal.returns-then-word-gt-LONGEST
 unfolding word_refusal too_long
