@@ -1,65 +1,50 @@
 -- What `search` leaves open of the proof of `carrying::insert`.
-use mathlib.Core.Path.{refl}
+use mathlib.Core.Path.{refl, ◌∙◌}
 use native.Mathlib.Omega.{arith}
 use Rattle.rewriter.proofs.carrying.CarriedSteps.{carried_start, carried_ready}
 use Rattle.rewriter.proofs.carrying.Passing.{ready_inside}
-use Rattle.rewriter.proofs.carrying.Inserting.{moved_carried, moved_again}
+use Rattle.rewriter.proofs.carrying.Inserting.{moved_again, turn_smaller}
 use borrow.Author.Rules.{rules}
 use Rattle.rewriter.proofs.carrying.insert.Goals as goal
 
-pub overflow_sub-q : goal.overflow_sub-q
-overflow_sub-q c =
-    omega (arith, ready_inside c.requires)
+pub overflow_sub-place : goal.overflow_sub-place
+overflow_sub-place c = omega (arith, ready_inside c.requires)
 
-pub loop-q-init : goal.loop-q-init
-loop-q-init c =
-    record {
-      families_size = refl;
-      places_size = refl;
-      lengths_size = refl;
-      word_size = refl;
-      moved = moved_carried c.requires (carried_start c.requires);
-    }
+pub loop-place-init : goal.loop-place-init
+loop-place-init c =
+    record { families_same = refl; places_same = refl; lengths_same = refl; word_size = refl; moved = (refl, carried_start c.requires) }
 
 pub pass-at-requires : goal.pass-at-requires
 pass-at-requires c =
-    carried_ready (c.loop-q.invariant.moved.0 (omega arith)).1 c.requires
-
-pub overflow_sub-q-in-loop-q : goal.overflow_sub-q-in-loop-q
-overflow_sub-q-in-loop-q c =
-    omega (arith, c.pass-at.ensures.0)
-
-pub overflow_add-steps : goal.overflow_add-steps
-overflow_add-steps c =
-    let a = carried_ready (c.loop-q.invariant.moved.0 (omega arith)).1 c.requires in
-    let b = carried_ready c.pass-at.ensures.1 a in
-    omega (arith, b.room)
+    let m = rw c.in-Some.is at c.loop-place.invariant.moved in
+    carried_ready m.1 c.requires
 
 pub turn-made-requires : goal.turn-made-requires
 turn-made-requires c =
-    let a = carried_ready (c.loop-q.invariant.moved.0 (omega arith)).1 c.requires in
-    record { ready = carried_ready c.pass-at.ensures.1 a; q_value = c.pass-at.ensures.2 }
+    let m = rw c.in-Some.is at c.loop-place.invariant.moved in
+    record { ready = carried_ready c.pass-at.ensures.carried.1 (carried_ready m.1 c.requires); q_value = c.pass-at.ensures.carried.2 }
 
-pub loop-q-smaller : goal.loop-q-smaller
-loop-q-smaller c =
-    omega (arith, c.pass-at.ensures.0, c.turn-made.ensures.place_bound)
+pub loop-place-smaller : goal.loop-place-smaller
+loop-place-smaller c = rw c.in-Some.is (turn_smaller c.turn-made.result.place _ _ _ c.turn-made.ensures.moved c.pass-at.ensures.carried.0)
 
-pub loop-q-preserved : goal.loop-q-preserved
-loop-q-preserved c =
-    let d = moved_again c.loop-q.invariant.moved (omega arith) c.pass-at.ensures.1 c.turn-made.ensures.size_value in
-    record { families_size = search rules; places_size = search rules; lengths_size = search rules; word_size = search rules; moved = d }
-
-pub shape_of-families : goal.shape_of-families
-shape_of-families c = c.loop-q.invariant.families_size
-
-pub shape_of-places : goal.shape_of-places
-shape_of-places c = c.loop-q.invariant.places_size
-
-pub shape_of-lengths : goal.shape_of-lengths
-shape_of-lengths c = c.loop-q.invariant.lengths_size
+pub loop-place-preserved : goal.loop-place-preserved
+loop-place-preserved c =
+    let i = c.loop-place.invariant in
+    let m = rw c.in-Some.is at i.moved in
+    let p = c.pass-at.ensures.same_lists in
+    let t = c.turn-made.ensures.same_lists in
+    record {
+      families_same = t.0 ∙ p.0 ∙ i.families_same;
+      places_same = t.1 ∙ p.1 ∙ i.places_same;
+      lengths_same = t.2 ∙ p.2 ∙ i.lengths_same;
+      word_size = search rules;
+      moved = moved_again m.1 c.pass-at.ensures.carried.1 _ _ _ _ _ _ c.turn-made.result.place c.turn-made.ensures.moved;
+    }
 
 pub shape_of-word : goal.shape_of-word
-shape_of-word c = c.loop-q.invariant.word_size
+shape_of-word c = c.loop-place.invariant.word_size
 
 pub returns : goal.returns
-returns c = c.loop-q.invariant.moved.1 c.loop-q-test.false
+returns c =
+    let i = c.loop-place.invariant in
+    record { same_lists = (i.families_same, i.places_same, i.lengths_same); inserted = rw c.in_default.is at i.moved }

@@ -20,4 +20,4 @@ loop-t-preserved c =
     above_next _ _ _ _ _ c.loop-t.invariant c.loop-t-test.true c.if-word-t.false
 
 pub returns : goal.returns
-returns c = above_end _ _ _ _ _ c.loop-t.invariant c.loop-t-test.false
+returns c = above_end _ _ _ _ _ c.loop-t.invariant c.loop-t-test.false c.min.ensures

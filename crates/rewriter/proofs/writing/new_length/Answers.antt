@@ -5,10 +5,10 @@ use borrow.Author.Tests.{eq-eqb, ne_eqb}
 use Rattle.rules.proofs.Scan.{right_length}
 use Rattle.rewriter.proofs.writing.new_length.Goals as goal
 
-pub returns-then-family-eq1 : goal.returns-then-family-eq1
+pub returns-then-rule-eq1 : goal.returns-then-rule-eq1
 unfolding right_length
-returns-then-family-eq1 c = rw (eq-eqb _ _ c.if-family-eq1.true) (omega arith)
+returns-then-rule-eq1 c = rw (eq-eqb _ _ c.if-rule-eq1.true) (omega arith)
 
 pub returns : goal.returns
 unfolding right_length
-returns c = rw (ne_eqb _ _ c.if-family-eq1.false) (omega arith)
+returns c = rw (ne_eqb _ _ c.if-rule-eq1.false) (omega arith)

@@ -1,10 +1,10 @@
--- `carrying::note_passed` notes step after step, as far as the lists go.
+-- `Steps::note_passed` notes step after step, as far as the lists go.
 -- Assumes nothing.
 use mathlib.Core.Path.{◌≡◌}
 use mathlib.Core.List.{List}
 use Prim.Native.Nat.{ℕ, suc, ◌-◌, ◌≤◌}
 use Rattle.traces.proofs.Tracing.{stores}
-use Rattle.rewriter.proofs.carrying.note_passed.Given as goal
+use Rattle.rewriter.proofs.carrying.Steps.note_passed.Given as goal
 
 -- the first i of the steps are noted
 pub record StepsNoted (families₀ places₀ lengths₀ : List ℕ) (s q left end : ℕ) (families places lengths : List ℕ) (i : ℕ) : Type 0 where
@@ -15,7 +15,6 @@ pub record StepsNoted (families₀ places₀ lengths₀ : List ℕ) (s q left en
 
 abbrev pub invariant-loop-i : goal.invariant-loop-i
 invariant-loop-i l =
-    StepsNoted l.initial.families l.initial.places l.initial.lengths l.s l.q l.left l.end l.families l.places l.lengths l.i
-
-abbrev pub decreases-loop-i : goal.decreases-loop-i
-decreases-loop-i l = l.end - l.i
+    StepsNoted l.initial.self.families.now l.initial.self.places.now l.initial.self.lengths.now l.s l.q l.left l.end l.self.families.now l.self.places.now l.self.lengths.now l.i
+    × (l.self.families.ghost_name ≡ l.initial.self.families.ghost_name) × (l.self.places.ghost_name ≡ l.initial.self.places.ghost_name)
+    × (l.self.lengths.ghost_name ≡ l.initial.self.lengths.ghost_name)
