@@ -3,7 +3,7 @@
 use mathlib.Core.Bool.{true, false, false≢true}
 use mathlib.Core.Path.{◌≡◌, refl, sym, ap, ◌∙◌}
 use mathlib.Core.List.{List, [], ◌∷◌, ◌++◌}
-use Prim.Native.Nat.{ℕ, ◌+◌, ◌/◌, ◌%◌, ◌≤◌, ◌<◌}
+use Prim.Native.Nat.{ℕ, ◌+◌, ◌^◌, ◌≤◌, ◌<◌}
 use native.Mathlib.Numerals.{add-one, add-two}
 use native.Mathlib.Omega.{arith}
 use lib.Dec.{leb-suc-zero}
@@ -14,28 +14,17 @@ use lib.Signed.{mag, lt_z}
 use mir.Syntax.{w8}
 use mir.Val.{SFits, to_z, of_z}
 use Rattle.refusals.proofs.Bytes.{byte_back, element_back}
-use Rattle.coxeter.proofs.Lists.{drop_next, Stored, stored_append, Storing, sets-append}
+use Rattle.coxeter.proofs.Lists.{drop_next, Stored, Storing, sets-append}
 use Rattle.listing_text.specs.Text.{decimal, spaced, letters, entry, entries}
 use Rattle.listing_text.proofs.Decimals.{decimal_digit, decimal_more}
-
-put_byte : (o : List ℕ) (at x : ℕ) → Stored o at (x ∷ []) (set o at x) (at + 1)
-put_byte o at x = (refl, refl)
+use Rattle.std.specs.Fmt as library
+use Rattle.std.proofs.lemmas.Fmt.{decimal_by_steps}
 
 -- ---- digits
 
-pub put_digit : (o : List ℕ) (at x : ℕ) → x < 10 → Stored o at (decimal x) (set o at (48 + x)) (at + 1)
-put_digit o at x h = rw (decimal_digit x h) (put_byte o at (48 + x))
-
-pub put_last : (o : List ℕ) (at x : ℕ) (out : List ℕ) (r : ℕ) → 10 ≤ x → Stored o at (decimal (x / 10)) out r
-    → Stored o at (decimal x) (set out r (48 + x % 10)) (r + 1)
-put_last o at x out r h g = rw (decimal_more x h) (stored_append o at (decimal (x / 10)) ((48 + x % 10) ∷ []) g (put_byte out r (48 + x % 10)))
-
--- room for a number is room for its digits before the last, and then for the last
-pub digit_room : (x : ℕ) → x < 10 → length (decimal x) ≡ 1
-digit_room x h = rw (decimal_digit x h)
-
-pub digits_room : (x : ℕ) → 10 ≤ x → length (decimal x) ≡ length (decimal (x / 10)) + 1
-digits_room x h = rw (decimal_more x h, length-append (decimal (x / 10)) ((48 + x % 10) ∷ []))
+-- the digits that the library writes are those of the listing
+pub same_decimal : (x : ℕ) → x < 2 ^ 64 → library.decimal x ≡ decimal x
+same_decimal x h = decimal_by_steps (λ n ds. ds ≡ decimal n) (λ n l. sym (decimal_digit n l)) (λ n ds l e. rw (decimal_more n l, e)) x h
 
 -- ---- numbers after a space
 
@@ -116,13 +105,15 @@ unfolding entry
 entry_minus_at (pos x) h = absurd (false≢true (sym (leb-suc-zero x) ∙ h))
 entry_minus_at (negsuc x) h = refl
 
-pub entry_minus : (z : ℤ) → SFits w8 z → lt_z (to_z w8 (of_z w8 z)) (pos 0) ≡ true → entry z ≡ 32 ∷ 45 ∷ decimal (nat_abs z)
-entry_minus z f h = entry_minus_at z (rw (byte_back z f) at h)
-
 entry_plus_at : (z : ℤ) → lt_z z (pos 0) ≡ false → entry z ≡ spaced (nat_abs z)
 unfolding entry
 entry_plus_at (pos x) h = refl
 entry_plus_at (negsuc x) h = absurd (false≢true (sym h))
 
-pub entry_plus : (z : ℤ) → SFits w8 z → lt_z (to_z w8 (of_z w8 z)) (pos 0) ≡ false → entry z ≡ spaced (nat_abs (to_z w8 (of_z w8 z)))
-entry_plus z f h = rw (byte_back z f) (entry_plus_at z (rw (byte_back z f) at h))
+-- z as code holds it, and its size n
+module _ {z : ℤ} {n : ℕ} (f : SFits w8 z) (e : n ≡ nat_abs (to_z w8 (of_z w8 z))) where
+  pub entry_minus : lt_z (to_z w8 (of_z w8 z)) (pos 0) ≡ true → entry z ≡ 32 ∷ 45 ∷ decimal n
+  entry_minus h = rw (e, byte_back z f) (entry_minus_at z (rw (byte_back z f) at h))
+
+  pub entry_plus : lt_z (to_z w8 (of_z w8 z)) (pos 0) ≡ false → entry z ≡ spaced n
+  entry_plus h = rw (e, byte_back z f) (entry_plus_at z (rw (byte_back z f) at h))

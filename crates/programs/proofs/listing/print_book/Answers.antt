@@ -21,4 +21,4 @@ slice_bounds-print-end g c =
 
 pub loop-edition-smaller : goal.loop-edition-smaller
 loop-edition-smaller g c =
-    piece_falls _ _ _ _ _ c.next_piece-piece.ensures.0 (omega (arith, c.loop-edition.invariant)) c.if-left-eq0.false
+    piece_falls _ _ _ _ _ c.next_piece-piece.ensures.0 (omega (arith, c.loop-edition.invariant)) c.if-piece-eq0.false
