@@ -17,9 +17,10 @@ NAME = re.compile(rf"(?:[!-~{INSIDE}]*|[{FIRST}](?:s|'|[-_][!-~]*)?)[{ENDS}]*|[{
 BLOCK = re.compile(r"\{-|-\}|/\*|\*/")
 # of antt: a comment is a whole line, a text ends on its line
 COMMENT, TEXT = re.compile(r"(?m)^ *--(?: .*)?$"), re.compile(r'"(?:[^"\\\n]|\\.)*"')
-UNUSED_ANTT = re.compile(r"""--.*|["«].*|\b(?:mutual|axiom|package|ruleset|deriving|pattern)\b(?![-\w])""")
-# an open brings names: it stands in no file of statements, nor in one that could be; the proof of a function, in a folder of its own, may have it
-OPENED, OF_FUNCTION = re.compile(r"(?<![\w.-])(?:open|using|renaming|hiding)(?![\w.-])"), re.compile(r"crates/\w+/proofs/.+/\w+\.antt")
+UNUSED_ANTT = re.compile(r"""--.*|["«].*|\b(?:mutual|axiom|package|deriving|pattern)\b(?![-\w])""")
+# an open brings names, and a list of rules for a search has one: they stand in no file of statements, nor in one that could be; the proofs of a module, in a
+# folder of its own, may have them
+OPENED, OF_FUNCTION = re.compile(r"(?<![\w.-])(?:open|using|renaming|hiding|ruleset)(?![\w.-])"), re.compile(r"crates/\w+/proofs/.+/\w+\.antt")
 # of Rattle: a comment, a text, which may go on behind a backslash at the end of a line, and a character
 BLANKED = re.compile(r"""(?s)//[^\n]*|"(?:[^"\\\n]|\\.)*"|'(?:[^'\\\n]|\\[^'\n]+|\\')'""")
 # attributes have lines of their own: for C, what the language derives, and where and how a proof is sought

@@ -10,13 +10,6 @@ use crate::lines::{put_line, put_refused};
 use book::Preset;
 use window::{Refusal, Word, write_form_of_word, write_window};
 
-// A window with room for every lane count.
-fn entries_64() -> [i8; 64]
-    ensures { 64 ≡ length result }
-{
-    [0i8; 64]
-}
-
 // The line of a word: its normal form and its window are computed here, where each has room.
 fn put_word(number: usize, word: Word, out: &mut [u8]) -> usize
     requires { length (word_line number word.group.kind word.group.rank word.letters.now) ≤ length out.old }
@@ -26,7 +19,7 @@ fn put_word(number: usize, word: Word, out: &mut [u8]) -> usize
     let Ok(l) = write_form_of_word(word, &mut form) else {
         return 0;
     };
-    let mut shown = entries_64();
+    let mut shown = [0i8; 64];
     let Ok(m) = write_window(word, &mut shown) else {
         return 0;
     };
@@ -43,12 +36,10 @@ pub(crate) fn put_preset(
     requires { (ed : Edition) × ((as_preset answer ≡ checked_preset ed book.now number) × (length (line_by book.now number (as_preset answer)) ≤ length out.old)) }
     ensures { Stored out.old 0 (line_by book.now number (as_preset answer)) out.new result }
 {
-    match answer {
-        Ok(preset) => {
-            let letters = &book[preset.start..preset.start + preset.length];
-            let group = preset.group;
-            put_word(number, Word { group, letters }, out)
-        }
-        Err(refusal) => put_refused(number, refusal, out),
-    }
+    let Ok(preset) = answer else {
+        return put_refused(number, answer.unwrap_err(), out);
+    };
+    let letters = &book[preset.start..preset.start + preset.length];
+    let group = preset.group;
+    put_word(number, Word { group, letters }, out)
 }

@@ -27,10 +27,10 @@ pub put_word-requires : goal.put_word-requires
 put_word-requires c = rw (line_by-found c.args.book.now c.args.number _ c.in-Ok.is) c.requires.1.1
 
 pub put_refused-requires : goal.put_refused-requires
-put_refused-requires c = rw (line_by-refused c.args.book.now c.args.number _ c.in-Err.is) c.requires.1.1
+put_refused-requires c = rw (line_by-refused c.args.book.now c.args.number _ c.unwrap_err.ensures) c.requires.1.1
 
-pub returns-in-Ok : goal.returns-in-Ok
-returns-in-Ok c = rw (line_by-found c.args.book.now c.args.number _ c.in-Ok.is) at c.put_word.ensures
+pub returns-in_default : goal.returns-in_default
+returns-in_default c = rw (line_by-refused c.args.book.now c.args.number _ c.unwrap_err.ensures) at c.put_refused.ensures
 
-pub returns-in-Err : goal.returns-in-Err
-returns-in-Err c = rw (line_by-refused c.args.book.now c.args.number _ c.in-Err.is) at c.put_refused.ensures
+pub returns : goal.returns
+returns c = rw (line_by-found c.args.book.now c.args.number _ c.in-Ok.is) at c.put_word.ensures

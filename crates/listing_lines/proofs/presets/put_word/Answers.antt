@@ -4,7 +4,8 @@
 use mathlib.Core.Path.{sym}
 use Prim.Native.Nat.{◌≤◌}
 use native.Mathlib.Omega.{arith}
-use lib.ListN.{length}
+use lib.IntN.{pos}
+use lib.ListN.{length, replicate}
 use lib.Seq.{length-take-le}
 use Rattle.coxeter.specs.Windows.{window}
 use Rattle.coxeter.specs.NormalForm.{word_normal_form}
@@ -21,7 +22,7 @@ form_inside : (c : In-Ok) → c.in-Ok.l ≤ length c.write_form_of_word.new.out
 form_inside c = omega (arith, (form c).room, c.write_form_of_word.auto.out)
 
 -- the window in its buffer
-shown : (c : In-Ok-write_window) → let g = c.args.word.group in Wrote 0 (window g.kind g.rank c.args.word.letters.now) c.entries_64-shown.result c.write_window.new.out c.in-Ok-write_window.m
+shown : (c : In-Ok-write_window) → let g = c.args.word.group in Wrote 0 (window g.kind g.rank c.args.word.letters.now) (replicate 64 (pos 0)) c.write_window.new.out c.in-Ok-write_window.m
 shown c = wrote _ _ _ _ _ c.in-Ok-write_window.ensures
 
 shown_inside : (c : In-Ok-write_window) → c.in-Ok-write_window.m ≤ length c.write_window.new.out
@@ -34,7 +35,7 @@ returns-in_default c =
 pub returns-in_default-write_window : goal.returns-in_default-write_window
 returns-in_default-write_window c =
     absurd
-    (never_refused _ _ _ _ (omega (arith, window_le _ _ c.args.word.group.in_range c.args.word.letters.now, c.entries_64-shown.ensures))
+    (never_refused _ _ _ _ (omega (arith, window_le _ _ c.args.word.group.in_range c.args.word.letters.now))
     c.in_default-write_window.ensures)
 
 pub slice_bounds-form-end : goal.slice_bounds-form-end
