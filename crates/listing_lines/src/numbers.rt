@@ -4,7 +4,8 @@ ghost use Rattle.std.specs.Prelude.{◌+◌, ◌≤◌, length};
 ghost use Rattle.coxeter.proofs.Lists.{Stored};
 ghost use Rattle.listing_text.specs.Text as text;
 
-// A number in decimal: the digits before the last one first.
+// A number in decimal: the digits before the last one first. By `itoa`, with a buffer of its own for each number, a
+// listing takes a tenth longer.
 pub(crate) fn put_decimal(out: &mut [u8], at: usize, x: usize) -> usize
     requires { at + length (text.decimal x) ≤ length out.old }
     ensures { Stored out.old at (text.decimal x) out.new result }

@@ -17,10 +17,9 @@ use Rattle.coxeter.proofs.Outcomes.{writes_short, writes-written}
 use Rattle.coxeter.proofs.FrontLaws.{sets-front, take-front}
 use Rattle.book_format.specs.declared.Edition.{Edition}
 use Rattle.book_format.specs.answers.Opened.{Opened}
-use Rattle.book_format.specs.answers.Opened as opened
 use Rattle.book_format.specs.answers.Preset.{Preset}
 use Rattle.book_format.specs.Calls.{checked_book, checked_preset}
-use Rattle.listing_text.specs.Text.{decimal, refused_text, book_text, presets_text, refused, count_line, refused_book_line, line_by, line_of}
+use Rattle.listing_text.specs.Text.{decimal, refused_text, book_text, refused, refused_book_line, line_by, line_of}
 use Rattle.listing_text.specs.Calls.{line_count_by, line_count, first_line, line, lines, fitting, Piecing, next_piece}
 use Rattle.listing_text.proofs.Pieces.{fitting_more, fitting_none, length-fitting_le}
 use Rattle.listing_text.proofs.Answered.{line_from}
@@ -28,24 +27,6 @@ use Rattle.listing_text.proofs.Decimals.{length-decimal_byte}
 use Rattle.listing_text.proofs.Room.{length-line_le}
 
 -- ---- lines
-
--- by what opening the book answered
-module _ (a : Opened) where
-  pub line_count_presets : (c : ℕ) → a ≡ opened.Presets c → c + 1 ≡ line_count_by a
-  unfolding line_count_by
-  line_count_presets c q = rw q (add-one c)
-
-  pub line_count-refused : (r : ℕ) → a ≡ opened.Refused r → 1 ≡ line_count_by a
-  unfolding line_count_by
-  line_count-refused r q = rw q
-
-  pub first_line_presets : (c : ℕ) → a ≡ opened.Presets c → first_line a ≡ presets_text ++ decimal c ++ (10 ∷ [])
-  unfolding first_line count_line
-  first_line_presets c q = rw q
-
-  pub first_line-refused : (r : ℕ) → a ≡ opened.Refused r → first_line a ≡ (book_text ++ refused_text) ++ decimal r ++ (10 ∷ [])
-  unfolding first_line refused_book_line refused
-  first_line-refused r q = rw q
 
 pub line_count-by : (ed : Edition) (b : List ℕ) (a : Opened) → a ≡ checked_book ed b → line_count_by a ≡ line_count ed b
 unfolding line_count
@@ -75,18 +56,23 @@ stored_front o u v m h p =
 
 -- ---- the line of a refused book
 
-pub refused_room : (r : ℕ) → r < 256 → length (first_line (opened.Refused r)) ≤ 4096
-unfolding first_line refused_book_line refused
+-- such a line as the code puts it together
+abbrev pub refused_parts : ℕ → List ℕ
+refused_parts r = (book_text ++ refused_text) ++ decimal r ++ (10 ∷ [])
+
+pub refused_room : (r : ℕ) → r < 256 → length (refused_parts r) ≤ 4096
 refused_room r h = simp length-append (omega (arith, length-decimal_byte r h))
 
 -- it is made in a buffer o, which is then v, and has m bytes
-module _ (r : ℕ) (h : r < 256) (o v : List ℕ) (m : ℕ) (g : 4096 ≡ length o) (p : Stored o 0 (first_line (opened.Refused r)) v m) where
+module _ (r : ℕ) (h : r < 256) (o v : List ℕ) (m : ℕ) (g : 4096 ≡ length o) (p : Stored o 0 (refused_parts r) v m) where
   made : (m ≡ length (refused_book_line r)) × (take m v ≡ refused_book_line r)
-  unfolding first_line
-  made = stored_front o (refused_book_line r) v m (omega (arith, refused_room r h)) p
+  unfolding refused_book_line refused
+  made = stored_front o (refused_parts r) v m (omega (arith, refused_room r h)) p
 
-  pub refused_inside : m ≤ length o
-  refused_inside = let l : length (refused_book_line r) ≤ 4096 = unfold first_line in refused_room r h in omega (arith, made.0)
+  pub refused_inside : m ≤ length v
+  refused_inside =
+      let l : length v ≡ length o = ap length p.1 ∙ length-sets o 0 (refused_parts r) in
+      omega (arith, p.0, refused_room r h)
 
   module _ (out : List ℕ) where
     pub refused-short : length out < m → Yields (writes 0 (refused_book_line r) out) (Refused 14) out

@@ -6,6 +6,7 @@ use mathlib.Core.List.{map}
 use Prim.Native.Nat.{◌-◌, ◌≤◌, max}
 use lib.ListN.{length}
 use Rattle.coxeter.specs.Kinds.{up}
+use Rattle.book_format.specs.answers.Preset.{as_preset}
 use Rattle.book_format.specs.Calls.{checked_preset}
 use Rattle.listing_text.specs.Calls.{line_count}
 use Rattle.listing_lines.proofs.pieces.Filling.{Filling}
@@ -15,7 +16,7 @@ abbrev pub invariant-loop-next : goal.invariant-loop-next
 invariant-loop-next l = record {
   filling : Filling l.edition l.book l.first l.initial.out l.out l.next l.end;
   begins : l.run.first ≤ l.next - 1;
-  presets : map (λ s. s.preset) l.run.presets ≡ map (checked_preset l.edition l.book) (up l.run.first 128);
+  presets : map as_preset l.run.presets ≡ map (checked_preset l.edition l.book) (up l.run.first 128);
   room : 65536 ≡ length l.line;
   count : l.count ≡ line_count l.edition l.book;
   last : l.next ≤ max l.first l.count;
