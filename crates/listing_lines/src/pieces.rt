@@ -2,10 +2,10 @@
 // own, where every line has room, and copied if it fits whole.
 ghost use Rattle.std.specs.Prelude.{◌≡◌, ◌-◌, ◌≤◌, length, map};
 ghost use Rattle.coxeter.specs.Kinds.{up};
+ghost use Rattle.coxeter.specs.answers.Answer.{as_answer};
 ghost use Rattle.coxeter.specs.Calls.{Yields, writes};
 ghost use Rattle.coxeter.proofs.Lists.{Stored};
 ghost use Rattle.book_format.specs.declared.Edition.{Edition};
-ghost use Rattle.coxeter.specs.answers.Answer.{as_answer};
 ghost use Rattle.book_format.specs.answers.Opened.{as_opened};
 ghost use Rattle.book_format.specs.answers.Preset.{as_preset};
 ghost use Rattle.book_format.specs.Calls.{checked_preset};

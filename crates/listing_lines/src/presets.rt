@@ -10,7 +10,8 @@ use crate::lines::{put_line, put_refused};
 use book::Preset;
 use window::{Refusal, Word, write_form_of_word, write_window};
 
-// The line of a word: its normal form and its window are computed here, where each has room.
+// The line of a word: its normal form and its window are computed here, where each has room, so that neither call is
+// refused.
 fn put_word(number: usize, word: Word, out: &mut [u8]) -> usize
     requires { length (word_line number word.group.kind word.group.rank word.letters.now) ≤ length out.old }
     ensures { Stored out.old 0 (word_line number word.entry.group.kind word.entry.group.rank word.entry.letters.now) out.new result }

@@ -3,7 +3,7 @@
 use mathlib.Core.Bool.{true, false, false≢true}
 use mathlib.Core.Path.{◌≡◌, refl, sym, ap, ◌∙◌}
 use mathlib.Core.List.{List, [], ◌∷◌, ◌++◌}
-use Prim.Native.Nat.{ℕ, ◌+◌, ◌^◌, ◌≤◌, ◌<◌}
+use Prim.Native.Nat.{ℕ, ◌+◌, ◌/◌, ◌%◌, ◌≤◌, ◌<◌}
 use native.Mathlib.Numerals.{add-one, add-two}
 use native.Mathlib.Omega.{arith}
 use lib.Dec.{leb-suc-zero}
@@ -14,17 +14,28 @@ use lib.Signed.{mag, lt_z}
 use mir.Syntax.{w8}
 use mir.Val.{SFits, to_z, of_z}
 use Rattle.refusals.proofs.Bytes.{byte_back, element_back}
-use Rattle.coxeter.proofs.Lists.{drop_next, Stored, Storing, sets-append}
+use Rattle.coxeter.proofs.Lists.{drop_next, Stored, stored_append, Storing, sets-append}
 use Rattle.listing_text.specs.Text.{decimal, spaced, letters, entry, entries}
 use Rattle.listing_text.proofs.Decimals.{decimal_digit, decimal_more}
-use Rattle.std.specs.Fmt as library
-use Rattle.std.proofs.lemmas.Fmt.{decimal_by_steps}
+
+put_byte : (o : List ℕ) (at x : ℕ) → Stored o at (x ∷ []) (set o at x) (at + 1)
+put_byte o at x = (refl, refl)
 
 -- ---- digits
 
--- the digits that the library writes are those of the listing
-pub same_decimal : (x : ℕ) → x < 2 ^ 64 → library.decimal x ≡ decimal x
-same_decimal x h = decimal_by_steps (λ n ds. ds ≡ decimal n) (λ n l. sym (decimal_digit n l)) (λ n ds l e. rw (decimal_more n l, e)) x h
+pub put_digit : (o : List ℕ) (at x : ℕ) → x < 10 → Stored o at (decimal x) (set o at (48 + x)) (at + 1)
+put_digit o at x h = rw (decimal_digit x h) (put_byte o at (48 + x))
+
+pub put_last : (o : List ℕ) (at x : ℕ) (out : List ℕ) (r : ℕ) → 10 ≤ x → Stored o at (decimal (x / 10)) out r
+    → Stored o at (decimal x) (set out r (48 + x % 10)) (r + 1)
+put_last o at x out r h g = rw (decimal_more x h) (stored_append o at (decimal (x / 10)) ((48 + x % 10) ∷ []) g (put_byte out r (48 + x % 10)))
+
+-- room for a number is room for its digits before the last, and then for the last
+pub digit_room : (x : ℕ) → x < 10 → length (decimal x) ≡ 1
+digit_room x h = rw (decimal_digit x h)
+
+pub digits_room : (x : ℕ) → 10 ≤ x → length (decimal x) ≡ length (decimal (x / 10)) + 1
+digits_room x h = rw (decimal_more x h, length-append (decimal (x / 10)) ((48 + x % 10) ∷ []))
 
 -- ---- numbers after a space
 
