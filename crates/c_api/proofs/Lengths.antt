@@ -1,11 +1,10 @@
--- Every length that a call for C answers fits an `i64`: it is at most that of the longest book, by the checks that
--- were made before.
+-- Every length that a call for C answers fits an `i64`, by the checks that were made before.
 --
 -- Sections: numbers; answers; the window layer; the layers above it.
 -- Assumes nothing.
 use mathlib.Core.Path.{◌≡◌, refl, sym, ap, subst, ◌∙◌}
 use mathlib.Core.List.{List, ◌++◌}
-use Prim.Native.Nat.{ℕ, zero, suc, ◌-◌, ◌/◌, ◌≤◌, ◌<◌, min}
+use Prim.Native.Nat.{ℕ, zero, suc, ◌-◌, ◌/◌, ◌^◌, ◌≤◌, ◌<◌, min}
 use native.Mathlib.Decide.{ℕ_discrete}
 use native.Mathlib.Nat.{le_trans}
 use native.Mathlib.Omega.{arith}
@@ -62,17 +61,13 @@ use Rattle.c_api.specs.Calls.{refused, number_of, numbered}
 
 -- ---- numbers
 
--- a length as an `i64`
-pub size_back : (l : ℕ) → l ≤ 65535 → to_z w64 l ≡ pos l
-size_back l h = to_z_pos w64 l (omega arith)
-
 negate_fits : (k : ℕ) → k < 256 → SFits w64 (neg_ℤ (pos k))
 negate_fits zero h = record { sfits = omega arith }
 negate_fits (suc k) h = record { sfits = omega arith }
 
 -- `-k` for a cast byte
 minus_is : (k : ℕ) → k < 256 → pos 0 -ℤ to_z w64 k ≡ neg_ℤ (pos k)
-minus_is k h = rw (size_back k (omega arith)) (+ℤ_idl (neg_ℤ (pos k)))
+minus_is k h = rw (to_z_pos w64 k (omega arith)) (+ℤ_idl (neg_ℤ (pos k)))
 
 pub refusal-fits : (k : ℕ) → k < 256 → SFits w64 (pos 0 -ℤ to_z w64 k)
 refusal-fits k h = rw (minus_is k h) (negate_fits k h)
@@ -95,9 +90,9 @@ numbers_alike z a after o h e q = rw (i64_back z h, e, q.0, q.1)
 
 -- ---- answers
 
--- a length that an answer gives is at most that of the longest book
+-- an `i64` holds the length that an answer gives
 abbrev pub Small : Answer → Type 0
-Small a = (l : ℕ) → a ≡ answer.Length l → l ≤ 65535
+Small a = (l : ℕ) → a ≡ answer.Length l → l < 2 ^ 63
 
 answer_of_small : (r m : ℕ) → (r ≡ 0 → m ≤ 65535) → Small (answer_of r m)
 answer_of_small r m h l e = let p = ((answer_of_exactly r m).1 l).0 e in omega (arith, h p.0, p.1)
@@ -183,7 +178,7 @@ module _ (k n : ℕ) where
 
 -- a rewritten word is no longer than the word, and so has at most 4,096 letters
 pub rewrote_small : {k n : ℕ} {u : List ℕ} {p : ℕ} {before after : List ℕ} {a : Rewrite} → Rewrote single k n u p before after a
-    → (f i j l : ℕ) → a ≡ Used f i j l → l ≤ 65535
+    → (f i j l : ℕ) → a ≡ Used f i j l → l < 2 ^ 63
 unfolding rewrite_at
 rewrote_small {k} {n} {u} {p} {before} {after} w f i j l e =
     let r = rank_refusal k n then word_refusal n u then check 12 (past_end u p) in
@@ -197,14 +192,14 @@ rewrote_small {k} {n} {u} {p} {before} {after} w f i j l e =
           impossible (cc)
     ]
   where
-    by_rule : AcceptedWord k n u → l ≤ 65535
+    by_rule : AcceptedWord k n u → l < 2 ^ 63
     by_rule h =
         let t = used_length f i j l h (subst (Rewrote single k n u p before after) e w) in
         omega (arith, length_accepted n u h.word)
 
 -- the longest normal form at a rank with a table has at most 4,096 letters
 pub delay_table_small : (k n : ℕ) (counts : List ℕ) (entries : List ℤ) (letters : List ℕ)
-    → {a b l : ℕ} → (delay_table k n counts entries letters).answer ≡ table.Written a b l → l ≤ 65535
+    → {a b l : ℕ} → (delay_table k n counts entries letters).answer ≡ table.Written a b l → l < 2 ^ 63
 unfolding delay_table tables
 delay_table_small k n counts entries letters {a} {b} {l} e =
     let d = distribution (kind_of k) n in
@@ -236,7 +231,7 @@ reading_presets_small ed b i out =
     answer_of_small (book_refusal ed b then r) (min (count b - i) (length out / 5))
     (λ z. let a = accepted ed b (then_zero (book_refusal ed b) r z).0 in omega arith)
 
-pub presets_small : (ed : Edition) (b : List ℕ) (a : Opened) (c : ℕ) → a ≡ checked_book ed b → a ≡ opened.Presets c → c ≤ 65535
+pub presets_small : (ed : Edition) (b : List ℕ) (a : Opened) (c : ℕ) → a ≡ checked_book ed b → a ≡ opened.Presets c → c < 2 ^ 63
 presets_small ed b a c e q =
     let p = ((checked_book_exactly ed b).1 c).0 (sym e ∙ q) in
     let a = accepted ed b p.0 in

@@ -14,8 +14,7 @@ use native.Mathlib.Decide.{dec_le}
 use native.Mathlib.Omega.{arith}
 use lib.Dec.{eqb, leb}
 use lib.IntN.{ℤ, pos}
-use lib.ListN.{length}
-use lib.Seq.{sets}
+use lib.ListN.{length, drop}
 use borrow.Author.Tests.{lt-ltb, le-ltb, lt-leb, le-leb}
 use Rattle.coxeter.specs.declared.Counted.{Counted}
 use Rattle.coxeter.specs.declared.Counted.TheVariants as counted
@@ -45,7 +44,7 @@ module _ (x : Counted) (list : List ℕ) where
     unfolding crossing_numbers
     crossings-short h = rw q (listed-short (pos (a + b + c)) (a ∷ b ∷ c ∷ []) list h)
 
-    pub crossings_stored : {z : ℤ} → 3 ≤ length list → z ≡ pos (a + b + c) → (z, sets list 0 (a ∷ b ∷ c ∷ [])) ≡ listed (crossing_numbers x) list
+    pub crossings_stored : {z : ℤ} → 3 ≤ length list → z ≡ pos (a + b + c) → (z, a ∷ b ∷ c ∷ drop 3 list) ≡ listed (crossing_numbers x) list
     unfolding crossing_numbers
     crossings_stored {z} h e = rw (q, ← e) (listed_stored z (a ∷ b ∷ c ∷ []) list h)
 
@@ -60,7 +59,7 @@ module _ {a d : Preset} (list : List ℕ) (e : a ≡ d) where
     unfolding preset_numbers
     fields_short h = rw (← e, q) (listed-short (pos 4) (k ∷ n ∷ s ∷ l ∷ []) list h)
 
-    pub fields_stored : 4 ≤ length list → (pos 4, sets list 0 (k ∷ n ∷ s ∷ l ∷ [])) ≡ listed (preset_numbers d) list
+    pub fields_stored : 4 ≤ length list → (pos 4, k ∷ n ∷ s ∷ l ∷ drop 4 list) ≡ listed (preset_numbers d) list
     unfolding preset_numbers
     fields_stored h = rw (← e, q) (listed_stored (pos 4) (k ∷ n ∷ s ∷ l ∷ []) list h)
 
@@ -91,7 +90,7 @@ rewriting-listed k n u p out rule = rewriting-listed_by_cases (eqb r 0) (first_f
 
 module _ {k n : ℕ} {u : List ℕ} {p : ℕ} {out after : List ℕ} (rule : List ℕ) {a : Rewrite} (w : Rewrote single k n u p out after a) (z : ℤ) where
   pub rewriting_used : {f i j l : ℕ} → a ≡ Used f i j l → 3 ≤ length rule → z ≡ pos l
-      → (z, (after, sets rule 0 (f ∷ i ∷ j ∷ []))) ≡ rewriting k n u p out rule
+      → (z, (after, f ∷ i ∷ j ∷ drop 3 rule)) ≡ rewriting k n u p out rule
   unfolding rewrite_numbers
   rewriting_used {f} {i} {j} q h e =
       rw (rewriting-listed k n u p out rule, ← w.answer, ← w.outputs, q, ← e) (beside_stored z (f ∷ i ∷ j ∷ []) rule after out h)

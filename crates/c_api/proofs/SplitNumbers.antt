@@ -8,8 +8,7 @@ use mathlib.Core.List.{List, [], ◌∷◌}
 use Prim.Native.Nat.{ℕ, ◌+◌, ◌≤◌, ◌<◌}
 use native.Mathlib.Omega.{arith}
 use lib.IntN.{ℤ, pos}
-use lib.ListN.{length}
-use lib.Seq.{sets}
+use lib.ListN.{length, drop}
 use borrow.Author.Tests.{ne_eqb}
 use Rattle.coxeter.specs.Kinds.{kind_of}
 use Rattle.coxeter.specs.Windows.{window}
@@ -48,7 +47,7 @@ splitting_listed_refusable set u first second lengths = record { refused_same = 
 
 module _ (k n set : ℕ) (u first second lengths : List ℕ) {a : Split} {v w : List ℕ} (y : SplitYields (splitting k n set u first second) a v w) {z : ℤ} where
   pub splitting_listed_stored : {l m : ℕ} → a ≡ Words l m → 2 ≤ length lengths → z ≡ pos (l + m)
-      → (z, ((v, w), sets lengths 0 (l ∷ m ∷ []))) ≡ splitting_listed k n set u first second lengths
+      → (z, ((v, w), l ∷ m ∷ drop 2 lengths)) ≡ splitting_listed k n set u first second lengths
   unfolding splitting_listed split_numbers
   splitting_listed_stored {l} {m} q h e =
       rw (← y.0, ← y.1, ← y.2, q, ← e) (beside_stored z (l ∷ m ∷ []) lengths (v, w) (first, second) h)

@@ -5,15 +5,12 @@
 -- Assumes nothing.
 use mathlib.Core.Path.{◌≡◌, refl, sym, ap, ◌∙◌}
 use mathlib.Core.Bool.{true, false}
+use mathlib.Core.Logic.{◌⊎◌, inl, inr}
 use mathlib.Core.List.{List, [], ◌∷◌}
-use Prim.Native.Nat.{ℕ, ◌≤◌, ◌<◌}
+use Prim.Native.Nat.{ℕ, ◌≤◌, ◌<◌, ◌^◌}
 use native.Mathlib.Omega.{arith}
 use lib.IntN.{ℤ, pos}
-use lib.ListN.{length}
-use lib.Seq.{sets}
-use mir.Syntax.{w64}
-use mir.Val.{to_z}
-use mir.ValLaws.{to_z_pos}
+use lib.ListN.{length, drop}
 use borrow.Author.Tests.{ne_eqb, lt-ltb, le-ltb}
 use Rattle.coxeter.specs.declared.Answer.{Answer}
 use Rattle.coxeter.specs.declared.Answer.TheVariants as answer
@@ -30,22 +27,19 @@ use Rattle.traces.proofs.Unchanged.{to_end_refused-unchanged}
 use Rattle.traces.proofs.Tracing.{steps_few}
 use Rattle.traces.proofs.StepBounds.{counted_steps, ended_steps}
 use Rattle.c_api.specs.Calls.{refused, trace_numbers, rewriting_to_end_listed}
+use Rattle.c_api.proofs.Lengths.{Small}
 use Rattle.c_api.proofs.Bytes.{Refusable}
 use Rattle.c_api.proofs.Lists.{trace-numbers, IsRefusal, roomless, roomless_answer, beside_stored, beside_alone, beside_roomless, room_last}
 
 -- ---- numbers of steps
 
--- a number of steps as an `i64`
-pub steps_back : (s : ℕ) → s ≤ 8386560 → to_z w64 s ≡ pos s
-steps_back s h = to_z_pos w64 s (omega arith)
-
-pub number_of_steps_few : (k n : ℕ) (u : List ℕ) (l : ℕ) → number_of_steps k n u ≡ answer.Length l → l ≤ 8386560
+pub number_of_steps_few : (k n : ℕ) (u : List ℕ) → Small (number_of_steps k n u)
 number_of_steps_few k n u l e =
     let a = counted_steps k n u l e in
     omega (arith, a.1, steps_few k n u a.0)
 
 pub rewriting_to_end_few : (k n : ℕ) (u families places lengths out : List ℕ) {s l : ℕ}
-    → (rewriting_to_end k n u families places lengths out).answer ≡ to_end.Ended s l → s ≤ 8386560
+    → (rewriting_to_end k n u families places lengths out).answer ≡ to_end.Ended s l → s < 2 ^ 63
 rewriting_to_end_few k n u families places lengths out {l = l} e =
     let a = ended_steps families places lengths out l e in
     omega (arith, a.1, steps_few k n u a.0)
@@ -66,7 +60,7 @@ rewriting_to_end_listed_refusable u families places lengths out written = record
 module _ (k n : ℕ) (u families places lengths out written : List ℕ) {a : ToEnd} {f p g o : List ℕ}
     (y : TraceYields (rewriting_to_end k n u families places lengths out) a f p g o) {z : ℤ} where
   pub rewriting_to_end_listed_stored : {s l : ℕ} → a ≡ to_end.Ended s l → 1 ≤ length written → z ≡ pos s
-      → (z, ((f, p, g, o), sets written 0 (l ∷ []))) ≡ rewriting_to_end_listed k n u families places lengths out written
+      → (z, ((f, p, g, o), l ∷ drop 1 written)) ≡ rewriting_to_end_listed k n u families places lengths out written
   unfolding rewriting_to_end_listed trace_numbers
   rewriting_to_end_listed_stored {s} {l} q h e =
       rw (← y.0, ← y.1, ← y.2, ← y.3, ← y.4, q, ← e) (beside_stored z (l ∷ []) written (f, p, g, o) (families, places, lengths, out) h)
@@ -140,21 +134,17 @@ module _ (k n : ℕ) (u families places lengths : List ℕ) where
           let j = ((answer_of_exactly q (length (trace (kind_of k) n u).lines)).1 s).0 (sym e ∙ p) in
           rw (to_end_without [] [] (omega arith), j.0, j.1)
 
-      to_end_few : too_few_places s families places lengths ≡ true → refused 15 ≡ (rewriting_to_end_listed k n u families places lengths [] []).0
-      to_end_few h = rw h at to_end_steps
-
-      pub few_families : length families < s → refused 15 ≡ (rewriting_to_end_listed k n u families places lengths [] []).0
-      unfolding too_few_places too_short
-      few_families h = to_end_few (rw (lt-ltb (length families) s h))
-
-      pub few_places : s ≤ length families → length places < s → refused 15 ≡ (rewriting_to_end_listed k n u families places lengths [] []).0
-      unfolding too_few_places too_short
-      few_places f h = to_end_few (rw (le-ltb (length families) s f, lt-ltb (length places) s h))
-
-      pub few_lengths : s ≤ length families → s ≤ length places → length lengths < s
+      pub few_places : (length families < s)
+          ⊎ (((s ≤ length families) × (length places < s)) ⊎ ((s ≤ length families) × (s ≤ length places) × (length lengths < s)))
           → refused 15 ≡ (rewriting_to_end_listed k n u families places lengths [] []).0
       unfolding too_few_places too_short
-      few_lengths f g h = to_end_few (rw (le-ltb (length families) s f, le-ltb (length places) s g, lt-ltb (length lengths) s h))
+      few_places h =
+          let e : too_few_places s families places lengths ≡ true = elim h [
+            | inl f ↦ rw (lt-ltb (length families) s f)
+            | inr (inl f) ↦ rw (le-ltb (length families) s f.0, lt-ltb (length places) s f.1)
+            | inr (inr f) ↦ rw (le-ltb (length families) s f.0, le-ltb (length places) s f.1, lt-ltb (length lengths) s f.2)
+          ] in
+          rw e at to_end_steps
 
       pub enough_places : s ≤ length families → s ≤ length places → s ≤ length lengths
           → refused 14 ≡ (rewriting_to_end_listed k n u families places lengths [] []).0

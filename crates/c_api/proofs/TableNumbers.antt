@@ -7,8 +7,7 @@ use mathlib.Core.List.{List, [], ◌∷◌}
 use Prim.Native.Nat.{ℕ, ◌≤◌, ◌<◌}
 use native.Mathlib.Omega.{arith}
 use lib.IntN.{ℤ, pos}
-use lib.ListN.{length}
-use lib.Seq.{sets}
+use lib.ListN.{length, drop}
 use Rattle.coxeter.specs.Kinds.{kind_of}
 use Rattle.coxeter.specs.NormalForm.{normal_form}
 use Rattle.coxeter.specs.Checks.{check, ◌then◌, too_short}
@@ -36,7 +35,7 @@ delay_table_listed_refusable counts entries letters lengths = record {
 module _ (k n : ℕ) (counts : List ℕ) (entries : List ℤ) (letters lengths : List ℕ) {a : Table} {d : List ℕ} {w : List ℤ} {u : List ℕ}
     (y : TableYields (delay_table k n counts entries letters) a d w u) {z : ℤ} where
   pub delay_table_listed_stored : {i j l : ℕ} → a ≡ Written i j l → 3 ≤ length lengths → z ≡ pos l
-      → (z, ((d, w, u), sets lengths 0 (i ∷ j ∷ l ∷ []))) ≡ delay_table_listed k n counts entries letters lengths
+      → (z, ((d, w, u), i ∷ j ∷ l ∷ drop 3 lengths)) ≡ delay_table_listed k n counts entries letters lengths
   unfolding delay_table_listed table_numbers
   delay_table_listed_stored {i} {j} {l} q h e =
       rw (← y.0, ← y.1, ← y.2, ← y.3, q, ← e) (beside_stored z (i ∷ j ∷ l ∷ []) lengths (d, w, u) (counts, entries, letters) h)

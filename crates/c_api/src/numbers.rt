@@ -1,5 +1,5 @@
 // The numbers that the calls for C return.
-ghost use Rattle.std.specs.Prelude.{◌≡◌, ℕ, ◌+◌, ◌≤◌, ltb, pos};
+ghost use Rattle.std.specs.Prelude.{◌≡◌, ℕ, ◌+◌, ◌^◌, ◌≤◌, ◌<◌, ltb, pos};
 ghost use Rattle.coxeter.specs.Kinds.{pick};
 ghost use Rattle.coxeter.specs.Checks.{◌then◌};
 ghost use Rattle.coxeter.specs.declared.Answer.TheVariants.{Length};
@@ -12,10 +12,7 @@ use window::{Answer, Counted};
 pub(crate) fn byte(x: u32) -> u8
     ensures { result ≡ pick (ltb 255 x) 0 x }
 {
-    if 255 < x {
-        return 0;
-    }
-    x as u8
+    u8::try_from(x).unwrap_or(0)
 }
 
 // IC2: the number of a refusal.
@@ -29,23 +26,20 @@ pub(crate) fn refusal_number(k: u8) -> i64
 pub(crate) fn unlisted(refusal: u8) -> i64
     ensures { result ≡ refused (refusal then 14) }
 {
-    if refusal != 0 {
-        return refusal_number(refusal);
-    }
-    -14
+    refusal_number(if refusal == 0 { 14 } else { refusal })
 }
 
-// A length, at most 65,535.
+// A length or a number of steps.
 pub(crate) fn size(l: usize) -> i64
-    requires { l ≤ 65535 }
+    requires { l < 2 ^ 63 }
     ensures { result ≡ pos l }
 {
     l as i64
 }
 
-// The number of an answer whose length, if it has one, is at most 65,535.
+// The number of an answer.
 pub(crate) fn number(answer: Answer) -> i64
-    requires { (l : ℕ) → answer ≡ Length l → l ≤ 65535 }
+    requires { (l : ℕ) → answer ≡ Length l → l < 2 ^ 63 }
     ensures { result ≡ number_of answer }
 {
     match answer {
@@ -65,12 +59,14 @@ pub(crate) fn write_crossings(counted: Counted, counts: &mut [u64]) -> i64
             negative_sum_pairs,
             negatives,
         } => {
-            if counts.len() < 3 {
+            let Some(front) = counts.first_chunk_mut() else {
                 return -14;
-            }
-            counts[0] = inversions as u64;
-            counts[1] = negative_sum_pairs as u64;
-            counts[2] = negatives as u64;
+            };
+            *front = [
+                inversions as u64,
+                negative_sum_pairs as u64,
+                negatives as u64,
+            ];
             size(inversions + negative_sum_pairs + negatives)
         }
         Counted::Refused(refusal) => refusal_number(refusal),

@@ -31,13 +31,10 @@ fn check_preset(edition: Edition, book: &[u8], number: usize, fields: &mut [u64]
             start,
             length,
         } => {
-            if fields.len() < 4 {
+            let Some(front) = fields.first_chunk_mut() else {
                 return -14;
-            }
-            fields[0] = kind as u64;
-            fields[1] = rank as u64;
-            fields[2] = start as u64;
-            fields[3] = length as u64;
+            };
+            *front = [kind as u64, rank as u64, start as u64, length as u64];
             4
         }
         Preset::Refused(refusal) => refusal_number(refusal),

@@ -10,12 +10,7 @@ fn refused_rule(kind: u8, rank: u8, word: &[u8], place: usize, out: &mut [u8]) -
     ensures { (result ≡ (rewriting kind rank word.now place [] []).0) × (out.new ≡ out.old) }
 {
     match rewrite_at(kind, rank, word, place, &mut out[..0]) {
-        Rewrite::Used {
-            family: _,
-            i: _,
-            j: _,
-            length: _,
-        } => -14,
+        Rewrite::Used { .. } => -14,
         Rewrite::NoneFits => -100,
         Rewrite::Refused(refusal) => refusal_number(refusal),
     }
@@ -26,9 +21,9 @@ fn refused_rule(kind: u8, rank: u8, word: &[u8], place: usize, out: &mut [u8]) -
 fn rewrite(kind: u8, rank: u8, word: &[u8], place: usize, out: &mut [u8], rule: &mut [u8]) -> i64
     ensures { (result, (out.new, rule.new)) ≡ rewriting kind rank word.now place out.old rule.old }
 {
-    if rule.len() < 3 {
+    let Some(front) = rule.first_chunk_mut() else {
         return refused_rule(kind, rank, word, place, out);
-    }
+    };
     match rewrite_at(kind, rank, word, place, out) {
         Rewrite::Used {
             family,
@@ -36,9 +31,7 @@ fn rewrite(kind: u8, rank: u8, word: &[u8], place: usize, out: &mut [u8], rule: 
             j,
             length,
         } => {
-            rule[0] = family;
-            rule[1] = i;
-            rule[2] = j;
+            *front = [family, i, j];
             size(length)
         }
         Rewrite::NoneFits => -100,

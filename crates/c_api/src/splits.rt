@@ -19,16 +19,15 @@ fn split(
     ensures { (result, ((first.new, second.new), lengths.new))
         ≡ splitting_listed kind rank allowed word.now first.old second.old lengths.old }
 {
-    if lengths.len() < 2 {
+    let Some(front) = lengths.first_chunk_mut() else {
         return unlisted(split_refusal(kind, rank, allowed, word));
-    }
+    };
     match split_word(kind, rank, allowed, word, first, second) {
         Split::Words {
             first: a,
             second: b,
         } => {
-            lengths[0] = a as u64;
-            lengths[1] = b as u64;
+            *front = [a as u64, b as u64];
             size(a + b)
         }
         Split::Refused(refusal) => refusal_number(refusal),

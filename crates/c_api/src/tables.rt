@@ -18,18 +18,16 @@ fn table(
     ensures { (result, ((counts.new, window.new, form.new), lengths.new))
         ≡ delay_table_listed kind rank counts.old window.old form.old lengths.old }
 {
-    if lengths.len() < 3 {
+    let Some(front) = lengths.first_chunk_mut() else {
         return unlisted(table_refusal(kind, rank));
-    }
+    };
     match delay_table(kind, rank, counts, window, form) {
         Table::Written {
             counts: c,
             entries: e,
             letters: l,
         } => {
-            lengths[0] = c as u64;
-            lengths[1] = e as u64;
-            lengths[2] = l as u64;
+            *front = [c as u64, e as u64, l as u64];
             size(l)
         }
         Table::Refused(refusal) => refusal_number(refusal),

@@ -1,37 +1,17 @@
 // The rewriting to its end.
-ghost use Rattle.std.specs.Prelude.{◌≡◌, [], ℕ, ◌≤◌, pos};
-ghost use Rattle.coxeter.specs.declared.Answer.TheVariants.{Length};
+ghost use Rattle.std.specs.Prelude.{◌≡◌, []};
 ghost use Rattle.traces.specs.Traces.{number_of_steps};
 ghost use Rattle.c_api.specs.Calls.{number_of, rewriting_to_end_listed};
 
-use crate::numbers::{byte, refusal_number};
+use crate::numbers::{byte, number, refusal_number, size};
 use rewriter::{Answer, ToEnd, rewrite_steps, rewrite_to_end};
-
-// A number of steps, which is at most the number of pairs of letters of the longest word.
-fn steps_number(steps: usize) -> i64
-    requires { steps ≤ 8386560 }
-    ensures { result ≡ pos steps }
-{
-    steps as i64
-}
-
-// The number of an answer that counts steps.
-fn counted(answer: Answer) -> i64
-    requires { (l : ℕ) → answer ≡ Length l → l ≤ 8386560 }
-    ensures { result ≡ number_of answer }
-{
-    match answer {
-        Answer::Length(l) => steps_number(l),
-        Answer::Refused(refusal) => refusal_number(refusal),
-    }
-}
 
 // I21: how many steps `winnathey_rewrite_to_end` takes: so many places each of its lists must have. For a word of L
 // letters that is at most L (L - 1) / 2 (T25). Refusals 5 to 8.
 pub fn winnathey_rewrite_steps(kind: u32, rank: u32, word: &[u8]) -> i64
     ensures { result ≡ number_of (number_of_steps kind rank word.now) }
 {
-    counted(rewrite_steps(byte(kind), byte(rank), word))
+    number(rewrite_steps(byte(kind), byte(rank), word))
 }
 
 // The number where the final length has no room: nothing can be written, and 15 comes before 14.
@@ -48,13 +28,7 @@ fn refused_written(
 {
     match rewrite_steps(kind, rank, word) {
         Answer::Length(steps) => {
-            if families.len() < steps {
-                return -15;
-            }
-            if places.len() < steps {
-                return -15;
-            }
-            if lengths.len() < steps {
+            if families.len() < steps || places.len() < steps || lengths.len() < steps {
                 return -15;
             }
             -14
@@ -79,13 +53,13 @@ fn to_end(
         ≡ rewriting_to_end_listed kind rank word.now families.old places.old lengths.old
         out.old written.old }
 {
-    if written.len() < 1 {
+    let Some(front) = written.first_chunk_mut() else {
         return refused_written(kind, rank, word, families, places, lengths);
-    }
+    };
     match rewrite_to_end(kind, rank, word, families, places, lengths, out) {
         ToEnd::Ended { steps, length } => {
-            written[0] = length as u64;
-            steps_number(steps)
+            *front = [length as u64];
+            size(steps)
         }
         ToEnd::Refused(refusal) => refusal_number(refusal),
     }

@@ -1,27 +1,19 @@
--- `presets::check_preset` goes by the cases of the answer, and stores the four fields one after the other.
+-- `presets::check_preset` goes by the cases of the answer, and writes the four fields to the front of the list.
 -- Assumes nothing.
 use mathlib.Core.Path.{◌∙◌}
-use native.Mathlib.Omega.{arith}
-use lib.ListN.{length-set}
 use Rattle.c_api.specs.Calls.{refused}
 use Rattle.c_api.proofs.Lengths.{i64_back}
 use Rattle.c_api.proofs.Outcomes.{fields_refused, fields_short, fields_stored}
 use Rattle.c_api.proofs.presets.check_preset.Goals as goal
 
-pub returns-then-fields-lt4 : goal.returns-then-fields-lt4
+pub returns-in_default : goal.returns-in_default
 unfolding refused
-returns-then-fields-lt4 c =
-    fields_short _ c.check_preset.ensures _ _ _ _ c.in-Found.is c.if-fields-lt4.true
+returns-in_default c =
+    fields_short _ c.check_preset.ensures _ _ _ _ c.in-Found.is c.in_default.ensures.cases
 
-pub bounds-fields-1 : goal.bounds-fields-1
-bounds-fields-1 c = simp length-set (omega arith)
-
-pub bounds-fields-2 : goal.bounds-fields-2
-bounds-fields-2 c = simp length-set (omega arith)
-
-pub returns-else-fields-lt4 : goal.returns-else-fields-lt4
-returns-else-fields-lt4 c =
-    fields_stored _ c.check_preset.ensures _ _ _ _ c.in-Found.is c.if-fields-lt4.false
+pub returns-in-Some : goal.returns-in-Some
+returns-in-Some c =
+    fields_stored _ c.check_preset.ensures _ _ _ _ c.in-Found.is c.in-Some.ensures.cases.enough
 
 pub returns-in-Refused : goal.returns-in-Refused
 returns-in-Refused c =

@@ -1,26 +1,15 @@
--- `traces::refused_written` compares the number of steps with the three lists.
+-- `tracing::refused_written` compares the number of steps with the three lists.
 -- Assumes nothing.
 use mathlib.Core.Path.{◌∙◌}
 use Rattle.c_api.specs.Calls.{refused}
 use Rattle.c_api.proofs.Lengths.{i64_back}
-use Rattle.c_api.proofs.StepNumbers.{few_families, few_places, few_lengths, enough_places, to_end_refused}
+use Rattle.c_api.proofs.StepNumbers.{few_places, enough_places, to_end_refused}
 use Rattle.c_api.proofs.tracing.refused_written.Goals as goal
 
 pub returns-then-families-steps : goal.returns-then-families-steps
 unfolding refused
 returns-then-families-steps c =
-    few_families _ _ _ _ _ _ c.rewrite_steps.ensures _ c.in-Length.is c.if-families-steps.true
-
-pub returns-then-places-steps : goal.returns-then-places-steps
-unfolding refused
-returns-then-places-steps c =
-    few_places _ _ _ _ _ _ c.rewrite_steps.ensures _ c.in-Length.is c.if-families-steps.false c.if-places-steps.true
-
-pub returns-then-lengths-steps : goal.returns-then-lengths-steps
-unfolding refused
-returns-then-lengths-steps c =
-    few_lengths _ _ _ _ _ _ c.rewrite_steps.ensures _ c.in-Length.is
-    c.if-families-steps.false c.if-places-steps.false c.if-lengths-steps.true
+    few_places _ _ _ _ _ _ c.rewrite_steps.ensures _ c.in-Length.is c.then-families-steps.either
 
 pub returns-else-lengths-steps : goal.returns-else-lengths-steps
 unfolding refused

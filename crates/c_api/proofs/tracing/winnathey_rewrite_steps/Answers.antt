@@ -5,10 +5,10 @@ use Rattle.c_api.proofs.Bytes.{measured}
 use Rattle.c_api.proofs.StepNumbers.{number_of_steps_few, number_of_steps_refusable}
 use Rattle.c_api.proofs.tracing.winnathey_rewrite_steps.Goals as goal
 
-pub counted-requires : goal.counted-requires
-counted-requires c l e = number_of_steps_few _ _ _ l (sym c.rewrite_steps.ensures ∙ e)
+pub number-requires : goal.number-requires
+number-requires c l e = number_of_steps_few _ _ _ l (sym c.rewrite_steps.ensures ∙ e)
 
 pub returns : goal.returns
 returns c =
-    measured (number_of_steps_refusable _) _ _ c.byte.ensures c.byte-2.ensures c.counted.type_inv c.counted.ensures
+    measured (number_of_steps_refusable _) _ _ c.byte.ensures c.byte-2.ensures c.number.type_inv c.number.ensures
     c.rewrite_steps.ensures
