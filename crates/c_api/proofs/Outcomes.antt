@@ -5,7 +5,7 @@
 -- Assumes nothing.
 use mathlib.Core.Path.{◌≡◌, refl, ◌∙◌}
 use mathlib.Core.Bool.{Bool, true, false}
-use mathlib.Core.List.{List, [], ◌∷◌, ◌++◌}
+use mathlib.Core.List.{List, [], ◌∷◌}
 use mathlib.Core.Option.{Option, none, some}
 use mathlib.Core.Logic.{◌⊎◌, ⊎_elim}
 use Prim.Native.Nat.{ℕ, ◌+◌, ◌≤◌, ◌<◌}
@@ -149,12 +149,7 @@ pub rewriting_narrow : {k n : ℕ} {u : List ℕ} {p : ℕ} {after : List ℕ} {
     → roomless (rewrite_numbers a) ≡ (rewriting k n u p [] []).0
 rewriting_narrow {k} {n} {u} {p} w = rw (rewriting-without k n u p [] [] (omega arith), ← w.answer)
 
-pub rewriting-roomless : (k n : ℕ) (u : List ℕ) (p : ℕ) {out : List ℕ} (rule : List ℕ) {z : ℤ} {after : List ℕ} → length rule < 3
-    → z ≡ (rewriting k n u p [] []).0 → after ≡ out → (z, (after, rule)) ≡ rewriting k n u p out rule
-rewriting-roomless k n u p {out} rule h e f =
-    rw (e, f, rewriting-without k n u p out rule h, rewriting-without k n u p [] [] (omega arith), roomless_rewrite k n u p out)
-
--- an empty part holds nothing
-pub nothing_before : {X : Type 0} (after out : List X) → length after ≡ 0 → after ++ out ≡ out
-nothing_before [] out h = refl
-nothing_before (x ∷ after) out h = absurd (omega arith)
+pub rewriting-roomless : (k n : ℕ) (u : List ℕ) (p : ℕ) {out : List ℕ} (rule : List ℕ) {z : ℤ} → length rule < 3
+    → z ≡ (rewriting k n u p [] []).0 → (z, (out, rule)) ≡ rewriting k n u p out rule
+rewriting-roomless k n u p {out} rule h e =
+    rw (e, rewriting-without k n u p out rule h, rewriting-without k n u p [] [] (omega arith), roomless_rewrite k n u p out)

@@ -5,11 +5,11 @@ ghost use Rattle.c_api.specs.Calls.{rewriting};
 use crate::numbers::{byte, refusal_number, size};
 use rewriter::{Rewrite, rewrite_at};
 
-// The number where the rule has no room: nothing can be written, so the rewrite gets an empty part of `out`.
-fn refused_rule(kind: u8, rank: u8, word: &[u8], place: usize, out: &mut [u8]) -> i64
-    ensures { (result ≡ (rewriting kind rank word.now place [] []).0) × (out.new ≡ out.old) }
+// The number where the rule has no room: nothing can be written, so the rewrite gets an empty output.
+fn refused_rule(kind: u8, rank: u8, word: &[u8], place: usize) -> i64
+    ensures { result ≡ (rewriting kind rank word.now place [] []).0 }
 {
-    match rewrite_at(kind, rank, word, place, &mut out[..0]) {
+    match rewrite_at(kind, rank, word, place, &mut []) {
         Rewrite::Used { .. } => -14,
         Rewrite::NoneFits => -100,
         Rewrite::Refused(refusal) => refusal_number(refusal),
@@ -22,7 +22,7 @@ fn rewrite(kind: u8, rank: u8, word: &[u8], place: usize, out: &mut [u8], rule: 
     ensures { (result, (out.new, rule.new)) ≡ rewriting kind rank word.now place out.old rule.old }
 {
     let Some(front) = rule.first_chunk_mut() else {
-        return refused_rule(kind, rank, word, place, out);
+        return refused_rule(kind, rank, word, place);
     };
     match rewrite_at(kind, rank, word, place, out) {
         Rewrite::Used {

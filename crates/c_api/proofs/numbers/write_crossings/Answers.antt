@@ -2,7 +2,6 @@
 -- list.
 -- Assumes nothing.
 use mathlib.Core.Path.{◌∙◌}
-use native.Mathlib.Omega.{arith}
 use Rattle.c_api.specs.Calls.{refused}
 use Rattle.c_api.proofs.Lengths.{i64_back}
 use Rattle.c_api.proofs.Outcomes.{crossings-refused, crossings-short, crossings_stored}

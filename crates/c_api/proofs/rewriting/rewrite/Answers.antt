@@ -9,8 +9,7 @@ use Rattle.c_api.proofs.rewriting.rewrite.Goals as goal
 
 pub returns-in_default : goal.returns-in_default
 returns-in_default c =
-    let r = c.refused_rule in
-    rewriting-roomless _ _ _ _ _ c.in_default.ensures.cases (i64_back _ r.type_inv ∙ r.ensures.0) r.ensures.1
+    rewriting-roomless _ _ _ _ _ c.in_default.ensures.cases (i64_back _ c.refused_rule.type_inv ∙ c.refused_rule.ensures)
 
 pub size-requires : goal.size-requires
 size-requires c =
