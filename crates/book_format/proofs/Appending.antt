@@ -17,7 +17,7 @@ use borrow.Author.Tests.{eq-eqb, le-ltb, eqb-true, not-false}
 use Rattle.coxeter.specs.Kinds.{pick, kind_of, lanes}
 use Rattle.coxeter.specs.Checks.{check, ◌then◌, word_refusal}
 use Rattle.book_format.specs.declared.Edition.{Edition}
-use Rattle.book_format.specs.declared.Preset.TheVariants as preset
+use Rattle.book_format.specs.answers.Preset as preset
 use Rattle.book_format.specs.Books.{count, trailer, offset, kind_at, rank_at, lanes_at, letter_count_at}
 use Rattle.book_format.specs.Books.{letters_at, end_at, misplaced_from, misplaced, wrong_lane_count, book_rank_refusal, book_refusal}
 use Rattle.book_format.specs.Books.{record_refusal, preset_refusal, appended, append_refusal, head_size, added_size}

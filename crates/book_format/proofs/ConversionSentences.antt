@@ -13,8 +13,8 @@ use native.Mathlib.Nat.{zero-add}
 use native.Mathlib.Omega.{arith}
 use lib.ListN.{length, get_or}
 use borrow.Author.Tests.{lt-ltb, ltb-true}
-use Rattle.coxeter.specs.declared.Answer.{Answer}
-use Rattle.coxeter.specs.declared.Answer.TheVariants.{Length, Refused}
+use Rattle.coxeter.specs.answers.Answer.{Answer}
+use Rattle.coxeter.specs.answers.Answer.{Length, Refused}
 use Rattle.coxeter.specs.Checks.{first_of, check, ◌then◌, too_short, word_refusal}
 use Rattle.coxeter.specs.Calls.{Yields, writes}
 use Rattle.coxeter.proofs.Refusals.{then_none, then_some}
@@ -24,7 +24,7 @@ use Rattle.book_format.specs.declared.Edition.{Edition}
 use Rattle.book_format.specs.declared.Edition.TheVariants.{First, Second}
 use Rattle.book_format.specs.Books.{count, offset, kind_at, rank_at, lanes_at, letters_at, wrong_size}
 use Rattle.book_format.specs.Books.{wrong_count, misplaced, wrong_lane_count, too_large, book_rank_refusal, book_refusal, record_refusal}
-use Rattle.book_format.specs.declared.Preset.TheVariants as preset
+use Rattle.book_format.specs.answers.Preset as preset
 use Rattle.book_format.specs.Calls.{checked_preset}
 use Rattle.book_format.specs.Conversion.{converted, too_many_lanes, record_conversion_refusal, records_conversion_refusal}
 use Rattle.book_format.specs.Conversion.{conversion_refusal, converting, record_tests, records_tests}

@@ -14,7 +14,7 @@ use native.Mathlib.Omega.{arith}
 use lib.ListN.{length, length-append}
 use borrow.Author.Tests.{ne_eqb, lt-ltb, le-ltb, ltb-false}
 use Rattle.coxeter.specs.Kinds.{kind_of, lanes}
-use Rattle.coxeter.specs.declared.Answer.TheVariants as answer
+use Rattle.coxeter.specs.answers.Answer as answer
 use Rattle.coxeter.specs.Checks.{check, ◌then◌, word_refusal}
 use Rattle.coxeter.proofs.Refusals.{then_zero, check_zero, then_none}
 use Rattle.book_format.specs.declared.Edition.{Edition}

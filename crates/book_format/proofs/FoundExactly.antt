@@ -14,7 +14,7 @@ use Rattle.coxeter.specs.Kinds.{kind_of, lanes}
 use Rattle.coxeter.specs.Checks.{WordOf}
 use Rattle.book_format.specs.declared.Edition.{Edition}
 use Rattle.book_format.specs.declared.Edition.TheVariants.{First, Second}
-use Rattle.book_format.specs.declared.Preset.TheVariants as preset
+use Rattle.book_format.specs.answers.Preset as preset
 use Rattle.book_format.specs.Books.{offset, kind_at, rank_at, lanes_at, letter_count_at, head_size, book_rank_refusal, record_refusal, preset_refusal}
 use Rattle.book_format.specs.Records.{Record, record_bytes, lay_out}
 use Rattle.book_format.specs.Calls.{checked_preset, letters_start, letters_of}

@@ -11,11 +11,11 @@ use native.Mathlib.Omega.{arith}
 use lib.ListN.{length}
 use borrow.Author.Tests.{eq-eqb, ne_eqb, lt-ltb, le-ltb, le-leb, ltb-true}
 use Rattle.coxeter.specs.Checks.{too_short}
-use Rattle.coxeter.specs.declared.Answer.TheVariants as answer
+use Rattle.coxeter.specs.answers.Answer as answer
 use Rattle.coxeter.specs.Calls.{answer_of, front, written, writes}
 use Rattle.book_format.specs.declared.Edition.{Edition}
-use Rattle.book_format.specs.declared.Opened.TheVariants as opened
-use Rattle.book_format.specs.declared.Preset.TheVariants as preset
+use Rattle.book_format.specs.answers.Opened as opened
+use Rattle.book_format.specs.answers.Preset as preset
 use Rattle.book_format.specs.Books.{two_at, count, trailer, wrong_size, wrong_count, misplaced_from}
 use Rattle.book_format.specs.Books.{misplaced, no_such_preset, book_refusal, preset_refusal, appended, append_refusal}
 use Rattle.book_format.specs.Calls.{opened_of, preset_of, checked_book, preset_at, checked_preset, letters_of, letters_start, reading_presets, appending}

@@ -20,8 +20,8 @@ use Rattle.coxeter.specs.Checks.{first_of, check, ◌then◌, wrong_kind, too_lo
 use Rattle.coxeter.proofs.Refusals.{then_avoids, check_avoids}
 use Rattle.book_format.specs.declared.Edition.{Edition}
 use Rattle.book_format.specs.declared.Edition.TheVariants.{First}
-use Rattle.book_format.specs.declared.Opened.TheVariants as opened
-use Rattle.book_format.specs.declared.Preset.TheVariants as preset
+use Rattle.book_format.specs.answers.Opened as opened
+use Rattle.book_format.specs.answers.Preset as preset
 use Rattle.book_format.specs.Books.{two_at, count, trailer, offset, kind_at, rank_at, letters_at, end_at, wrong_size, wrong_count}
 use Rattle.book_format.specs.Books.{misplaced_from, misplaced, no_such_preset, wrong_rank_in_book, wrong_lane_count}
 use Rattle.book_format.specs.Books.{book_rank_refusal, book_refusal, record_refusal, preset_refusal}

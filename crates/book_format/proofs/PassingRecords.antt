@@ -10,7 +10,9 @@ use Prim.Native.Nat.{ℕ, zero, suc, ◌+◌, ◌≤◌, ◌<◌}
 use native.Mathlib.Nat.{add-zero, add-suc, suc-add}
 use native.Mathlib.Omega.{arith}
 use borrow.Author.Tests.{le-ltb, ltb-false}
-use Rattle.coxeter.specs.Kinds.{Kind, A, B, D, kind_of, lanes}
+use Rattle.coxeter.specs.declared.Kind.{Kind}
+use Rattle.coxeter.specs.declared.Kind.TheVariants.{A, B, D}
+use Rattle.coxeter.specs.Kinds.{kind_of, lanes}
 use Rattle.coxeter.specs.Checks.{check, WordOf}
 use Rattle.coxeter.proofs.Acceptance.{rank_within}
 use Rattle.coxeter.proofs.Refusals.{then_zero, check_zero}

@@ -15,8 +15,8 @@ use borrow.Author.Tests.{eq-eqb, ne_eqb, lt-leb, le-leb, leb-false, eqb-true, no
 use Rattle.coxeter.specs.Kinds.{kind_of, lanes}
 use Rattle.coxeter.specs.Checks.{check, ◌then◌, rank_refusal, word_refusal, RankOf, WordOf}
 use Rattle.book_format.specs.declared.Edition.{Edition}
-use Rattle.book_format.specs.declared.Opened.TheVariants as opened
-use Rattle.book_format.specs.declared.Preset.TheVariants as preset
+use Rattle.book_format.specs.answers.Opened as opened
+use Rattle.book_format.specs.answers.Preset as preset
 use Rattle.book_format.specs.Books.{two_at, count, offset, count_place, head_size, kind_at, rank_at, lanes_at, letter_count_at, letters_at, wrong_lane_count}
 use Rattle.book_format.specs.Books.{no_such_preset, book_rank_refusal, book_refusal, record_refusal, preset_refusal}
 use Rattle.book_format.specs.Calls.{opened_of, preset_of, checked_book, preset_at, checked_record, checked_preset, letters_start, letters_of}

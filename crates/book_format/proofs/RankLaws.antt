@@ -8,7 +8,9 @@ use native.Mathlib.Decide.{ℕ_discrete}
 use native.Mathlib.Omega.{arith}
 use lib.Dec.{ltb}
 use borrow.Author.Tests.{lt-ltb, le-ltb, ltb-true, ltb-false}
-use Rattle.coxeter.specs.Kinds.{Kind, A, B, D, kind_of, least, greatest}
+use Rattle.coxeter.specs.declared.Kind.{Kind}
+use Rattle.coxeter.specs.declared.Kind.TheVariants.{A, B, D}
+use Rattle.coxeter.specs.Kinds.{kind_of, least, greatest}
 use Rattle.coxeter.specs.Checks.{check, ◌then◌, wrong_kind, wrong_rank, rank_refusal, RankOf}
 use Rattle.coxeter.proofs.Acceptance.{rank_within}
 use Rattle.coxeter.proofs.Basics.{or_false_left, or_false_right}

@@ -15,15 +15,16 @@ use native.Mathlib.Omega.{arith}
 use lib.Dec.{eqb}
 use lib.ListN.{length, get_or}
 use borrow.Author.Tests.{eq-eqb, ne_eqb, lt-ltb, le-ltb, leb-false}
-use Rattle.coxeter.specs.declared.Answer.TheVariants.{Refused}
-use Rattle.coxeter.specs.Kinds.{A, B, D, pick, kind_of, lanes}
+use Rattle.coxeter.specs.answers.Answer.{Refused}
+use Rattle.coxeter.specs.declared.Kind.TheVariants.{A, B, D}
+use Rattle.coxeter.specs.Kinds.{pick, kind_of, lanes}
 use Rattle.coxeter.specs.Checks.{first_of, check, ◌then◌, wrong_kind, too_long, wrong_letter, rank_refusal, word_refusal, WordOf}
 use Rattle.coxeter.specs.Calls.{Yields}
 use Rattle.coxeter.proofs.Refusals.{then_zero, check_zero}
 use Rattle.book_format.specs.declared.Edition.{Edition}
 use Rattle.book_format.specs.declared.Edition.TheVariants.{First, Second}
-use Rattle.book_format.specs.declared.Opened.TheVariants as opened
-use Rattle.book_format.specs.declared.Preset.TheVariants as preset
+use Rattle.book_format.specs.answers.Opened as opened
+use Rattle.book_format.specs.answers.Preset as preset
 use Rattle.book_format.specs.Books.{count, offset, head_size, kind_at, rank_at, lanes_at}
 use Rattle.book_format.specs.Books.{letter_count_at, letters_at, wrong_size, wrong_count, misplaced, no_such_preset, greatest_in_book}
 use Rattle.book_format.specs.Books.{wrong_rank_in_book, wrong_lane_count, book_rank_refusal, book_refusal, record_refusal, preset_refusal}

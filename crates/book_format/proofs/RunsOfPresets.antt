@@ -11,8 +11,8 @@ use native.Mathlib.Omega.{arith}
 use lib.ListN.{length, take, drop, get_or, length-map}
 use lib.Seq.{take_at, drop_at, drop-drop}
 use borrow.Author.Tests.{eq-eqb, le-ltb, lt-leb, leb-false, ltb-false}
-use Rattle.coxeter.specs.declared.Answer.{Answer}
-use Rattle.coxeter.specs.declared.Answer.TheVariants as answer
+use Rattle.coxeter.specs.answers.Answer.{Answer}
+use Rattle.coxeter.specs.answers.Answer as answer
 use Rattle.coxeter.specs.Kinds.{pick, up}
 use Rattle.coxeter.specs.Checks.{first_of, check, ◌then◌, too_short}
 use Rattle.coxeter.specs.Calls.{Yields, front, written}
@@ -22,9 +22,9 @@ use Rattle.coxeter.proofs.Refusals.{then_zero, check_zero}
 use Rattle.coxeter.proofs.FrontLaws.{drop-front, front_parts}
 use Rattle.coxeter.proofs.AnswersExactly.{answer_of_exactly}
 use Rattle.book_format.specs.declared.Edition.{Edition}
-use Rattle.book_format.specs.declared.Opened.TheVariants as opened
-use Rattle.book_format.specs.declared.Preset.{Preset}
-use Rattle.book_format.specs.declared.Preset.TheVariants as preset
+use Rattle.book_format.specs.answers.Opened as opened
+use Rattle.book_format.specs.answers.Preset.{Preset}
+use Rattle.book_format.specs.answers.Preset as preset
 use Rattle.book_format.specs.Books.{count, wrong_size, wrong_count, misplaced, no_such_preset, book_refusal}
 use Rattle.book_format.specs.Calls.{checked_book, checked_preset, fields_of, preset_fields, run_length, reading_presets}
 use Rattle.coxeter.proofs.FirstFailing.{check_then}

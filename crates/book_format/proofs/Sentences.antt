@@ -16,16 +16,16 @@ use native.Mathlib.Nat.{zero-add}
 use native.Mathlib.Omega.{arith}
 use lib.ListN.{length, get_or, take, drop}
 use borrow.Author.Tests.{eq-eqb, ne_eqb}
-use Rattle.coxeter.specs.declared.Answer.{Answer}
-use Rattle.coxeter.specs.declared.Answer.TheVariants.{Length, Refused}
+use Rattle.coxeter.specs.answers.Answer.{Answer}
+use Rattle.coxeter.specs.answers.Answer.{Length, Refused}
 use Rattle.coxeter.specs.Kinds.{kind_of, lanes}
 use Rattle.coxeter.specs.Checks.{◌then◌, word_refusal, WordOf}
 use Rattle.coxeter.specs.Calls.{Yields, writes}
 use Rattle.coxeter.proofs.Acceptance.{length_accepted}
 use Rattle.book_format.specs.declared.Edition.{Edition}
 use Rattle.book_format.specs.declared.Edition.TheVariants.{First, Second}
-use Rattle.book_format.specs.declared.Opened.TheVariants as opened
-use Rattle.book_format.specs.declared.Preset.TheVariants as preset
+use Rattle.book_format.specs.answers.Opened as opened
+use Rattle.book_format.specs.answers.Preset as preset
 use Rattle.book_format.specs.Books.{count, trailer, offset, head_size, added_size, book_rank_refusal, book_refusal, appended, append_refusal}
 use Rattle.book_format.specs.Records.{records_from, records_of, Bytes}
 use Rattle.book_format.specs.Calls.{preset_of, checked_book, checked_preset, letters_of, letters_start, reading_presets, appending, Grown}

@@ -4,7 +4,7 @@ use mathlib.Core.Path.{◌≡◌}
 use mathlib.Core.List.{List}
 use Prim.Native.Nat.{ℕ}
 use Rattle.book_format.specs.declared.Edition.{Edition}
-use Rattle.coxeter.specs.declared.Answer.TheVariants.{Refused}
+use Rattle.coxeter.specs.answers.Answer.{Refused}
 use Rattle.coxeter.specs.Checks.{check, ◌then◌, too_short}
 use Rattle.coxeter.proofs.Unchanged.{kept_whole, writes-unchanged}
 use Rattle.coxeter.proofs.AnswersExactly.{answer_of_exactly}

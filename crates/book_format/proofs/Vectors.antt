@@ -11,15 +11,16 @@ use native.Mathlib.Omega.{arith}
 use lib.ListN.{length, replicate}
 use lib.IntN.{pos}
 use borrow.Author.Tests.{lt-ltb}
-use Rattle.coxeter.specs.Kinds.{B, kind_of, up}
+use Rattle.coxeter.specs.declared.Kind.TheVariants.{B}
+use Rattle.coxeter.specs.Kinds.{kind_of, up}
 use Rattle.coxeter.specs.Windows.{from, swap, negate_first, act, window_from, identity, window}
 use Rattle.coxeter.specs.Checks.{wrong_kind, too_long, wrong_letter, word_refusal, too_short, WordOf}
 use Rattle.coxeter.specs.Calls.{answer_of, written, writes}
 use Rattle.coxeter.proofs.Vectors.{refused}
 use Rattle.book_format.specs.declared.Edition.{Edition}
 use Rattle.book_format.specs.declared.Edition.TheVariants.{First, Second}
-use Rattle.book_format.specs.declared.Opened.TheVariants as opened
-use Rattle.book_format.specs.declared.Preset.TheVariants as preset
+use Rattle.book_format.specs.answers.Opened as opened
+use Rattle.book_format.specs.answers.Preset as preset
 use Rattle.book_format.specs.Books.{two_at, count, trailer, offset, wrong_size, wrong_count, misplaced_from, misplaced, no_such_preset}
 use Rattle.book_format.specs.Books.{wrong_rank_in_book, wrong_lane_count, book_rank_refusal, book_refusal, record_refusal, preset_refusal, appended, retired}
 use Rattle.book_format.specs.Conversion.{records_conversion_refusal, converting}

@@ -2,7 +2,9 @@
 -- of the specification). `Edition` has two cases, so that no third can be named (B8); what differs between the
 -- editions goes by them.
 use Rattle.std.specs.Prelude.{Bool, not, ◌&&◌, ◌||◌, List, [], ◌∷◌, ◌++◌, ℕ, zero, suc, ◌+◌, ◌-◌, ◌*◌, ◌/◌, ◌%◌, eqb, leb, ltb, length, get_or, take, drop}
-use Rattle.coxeter.specs.Kinds.{Kind, A, B, D, kind_of, lanes, least, greatest}
+use Rattle.coxeter.specs.declared.Kind.{Kind}
+use Rattle.coxeter.specs.declared.Kind.TheVariants.{A, B, D}
+use Rattle.coxeter.specs.Kinds.{kind_of, lanes, least, greatest}
 use Rattle.coxeter.specs.Checks.{check, ◌then◌, wrong_kind, word_refusal}
 use Rattle.book_format.specs.declared.Edition.{Edition}
 use Rattle.book_format.specs.declared.Edition.TheVariants.{First, Second}

@@ -6,7 +6,7 @@ use Rattle.coxeter.specs.Checks.{check, ◌then◌, wrong_kind, too_long, wrong_
 use Rattle.coxeter.specs.Calls.{Outcome, writes}
 use Rattle.book_format.specs.declared.Edition.{Edition}
 use Rattle.book_format.specs.declared.Edition.TheVariants.{First, Second}
-use Rattle.book_format.specs.declared.Preset.TheVariants as preset
+use Rattle.book_format.specs.answers.Preset as preset
 use Rattle.book_format.specs.Books.{count, offset, kind_at, rank_at, lanes_at, letters_at}
 use Rattle.book_format.specs.Books.{wrong_rank_in_book, wrong_lane_count, too_large, book_refusal, record_refusal}
 use Rattle.book_format.specs.Records.{lay_out, records_of}

@@ -2,5 +2,6 @@
 -- the laws are in proofs/.
 pub mod Books
 pub mod Records
+pub mod answers
 pub mod Calls
 pub mod Conversion

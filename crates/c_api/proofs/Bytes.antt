@@ -16,12 +16,14 @@ use lib.Signed.{mag}
 use mir.Syntax.{w64}
 use mir.Val.{to_z, of_z}
 use borrow.Author.Tests.{ne_eqb, lt-ltb, le-ltb}
-use Rattle.coxeter.specs.declared.Answer.{Answer}
-use Rattle.coxeter.specs.Kinds.{Kind, A, B, D, pick, kind_of}
+use Rattle.coxeter.specs.answers.Answer.{Answer}
+use Rattle.coxeter.specs.declared.Kind.{Kind}
+use Rattle.coxeter.specs.declared.Kind.TheVariants.{A, B, D}
+use Rattle.coxeter.specs.Kinds.{pick, kind_of}
 use Rattle.coxeter.specs.Checks.{◌then◌, wrong_kind, wrong_rank, rank_refusal, word_refusal}
-use Rattle.coxeter.specs.declared.Counted.{Counted}
-use Rattle.coxeter.specs.declared.Verdict.{Verdict}
-use Rattle.coxeter.specs.declared.Choice.{Choice}
+use Rattle.coxeter.specs.answers.Counted.{Counted}
+use Rattle.coxeter.specs.answers.Verdict.{Verdict}
+use Rattle.coxeter.specs.answers.Choice.{Choice}
 use Rattle.coxeter.specs.Length.{Crossings}
 use Rattle.coxeter.specs.Calls.{counted_of, crossings_of_window, crossings_of_word, verdict_of, presets_equal, hands_back, choice}
 use Rattle.coxeter.specs.Calls.{Outcome, answer_of, written, writes, window_of_word, product_of_windows, inverse_of_window}

@@ -15,8 +15,8 @@ use mir.Syntax.{w64}
 use mir.Val.{SFits, to_z, of_z}
 use mir.ValLaws.{to_z-of_z, to_z_pos}
 use borrow.Author.Tests.{ne_eqb}
-use Rattle.coxeter.specs.declared.Answer.{Answer}
-use Rattle.coxeter.specs.declared.Answer.TheVariants as answer
+use Rattle.coxeter.specs.answers.Answer.{Answer}
+use Rattle.coxeter.specs.answers.Answer as answer
 use Rattle.coxeter.specs.Kinds.{kind_of}
 use Rattle.coxeter.specs.Windows.{window, product, inverse}
 use Rattle.coxeter.specs.Length.{window_length}
@@ -38,7 +38,7 @@ use Rattle.rules.specs.declared.Rewrite.TheVariants.{Used, Refused}
 use Rattle.rules.specs.Calls.{past_end, rewrite_at, Rewrote, single}
 use Rattle.rules.specs.Runs.{AcceptedWord}
 use Rattle.rules.proofs.Calls.{used_length}
-use Rattle.distribution.specs.declared.Table.TheVariants as table
+use Rattle.distribution.specs.answers.Table as table
 use Rattle.distribution.specs.Distribution.{distribution}
 use Rattle.distribution.specs.Longest.{longest}
 use Rattle.distribution.specs.Calls.{table_refusal, room_refusal, tables, delay_table}
@@ -46,8 +46,8 @@ use Rattle.distribution.proofs.Firsts.{table_of_exactly}
 use Rattle.distribution.proofs.Longest.{longest_accepted}
 use Rattle.distribution.proofs.Outcomes.{table_accepted, table_rank}
 use Rattle.book_format.specs.declared.Edition.{Edition}
-use Rattle.book_format.specs.declared.Opened.{Opened}
-use Rattle.book_format.specs.declared.Opened.TheVariants as opened
+use Rattle.book_format.specs.answers.Opened.{Opened}
+use Rattle.book_format.specs.answers.Opened as opened
 use Rattle.book_format.specs.Books.{count, no_such_preset, book_refusal, appended, append_refusal}
 use Rattle.book_format.specs.Calls.{checked_book, run_length, reading_presets, appending}
 use Rattle.book_format.specs.Conversion.{converted, conversion_refusal, converting}

@@ -17,21 +17,21 @@ use lib.ListN.{length, drop}
 use borrow.Author.Tests.{ne_eqb, lt-ltb, le-ltb}
 use Rattle.std.specs.Array.{IsFirstChunk}
 use Rattle.std.proofs.lemmas.List.{take-append-drop}
-use Rattle.coxeter.specs.declared.Counted.{Counted}
-use Rattle.coxeter.specs.declared.Counted.TheVariants as counted
+use Rattle.coxeter.specs.answers.Counted.{Counted}
+use Rattle.coxeter.specs.answers.Counted as counted
 use Rattle.coxeter.specs.Kinds.{pick}
 use Rattle.coxeter.specs.Checks.{check, ◌then◌, too_short}
 use Rattle.coxeter.specs.Calls.{front}
 use Rattle.rules.specs.declared.Rewrite.{Rewrite}
 use Rattle.rules.specs.declared.Rewrite.TheVariants as rewrite
-use Rattle.shortest_words.specs.declared.Split.{Split}
-use Rattle.shortest_words.specs.declared.Split.TheVariants as split
-use Rattle.traces.specs.declared.ToEnd.{ToEnd}
-use Rattle.traces.specs.declared.ToEnd.TheVariants as to_end
-use Rattle.distribution.specs.declared.Table.{Table}
-use Rattle.distribution.specs.declared.Table.TheVariants as table
-use Rattle.book_format.specs.declared.Preset.{Preset}
-use Rattle.book_format.specs.declared.Preset.TheVariants as preset
+use Rattle.shortest_words.specs.answers.Split.{Split}
+use Rattle.shortest_words.specs.answers.Split as split
+use Rattle.traces.specs.answers.ToEnd.{ToEnd}
+use Rattle.traces.specs.answers.ToEnd as to_end
+use Rattle.distribution.specs.answers.Table.{Table}
+use Rattle.distribution.specs.answers.Table as table
+use Rattle.book_format.specs.answers.Preset.{Preset}
+use Rattle.book_format.specs.answers.Preset as preset
 use Rattle.c_api.specs.Calls.{refused, crossing_numbers, trace_numbers, split_numbers, table_numbers, preset_numbers, listed, listed_beside}
 
 -- ---- the numbers of an answer

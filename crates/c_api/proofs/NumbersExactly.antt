@@ -15,10 +15,10 @@ use Rattle.coxeter.specs.Length.{window_length}
 use Rattle.coxeter.specs.Checks.{RankOf, WordOf, wrong_kind, wrong_rank, too_long, wrong_letter, too_short}
 use Rattle.coxeter.proofs.FirstFailing.{first_of-named}
 use Rattle.coxeter.proofs.FrontLaws.{front_parts}
-use Rattle.coxeter.specs.declared.Answer.TheVariants as answer
+use Rattle.coxeter.specs.answers.Answer as answer
 use Rattle.rules.specs.Rules.{Rule}
-use Rattle.shortest_words.specs.declared.Fallback.{Fallback}
-use Rattle.shortest_words.specs.declared.Fallback.TheVariants.{Kept, No, Refused}
+use Rattle.shortest_words.specs.answers.Fallback.{Fallback}
+use Rattle.shortest_words.specs.answers.Fallback.{Kept, No, Refused}
 use Rattle.shortest_words.specs.Fallback.{FallbackOf, is_fallback}
 use Rattle.shortest_words.specs.Calls.{fallback_answer}
 use Rattle.shortest_words.proofs.Firsts.{fallback_first_of, fallback_of_exactly}

@@ -16,8 +16,8 @@ use lib.Dec.{eqb, leb}
 use lib.IntN.{ℤ, pos}
 use lib.ListN.{length, drop}
 use borrow.Author.Tests.{lt-ltb, le-ltb, lt-leb, le-leb}
-use Rattle.coxeter.specs.declared.Counted.{Counted}
-use Rattle.coxeter.specs.declared.Counted.TheVariants as counted
+use Rattle.coxeter.specs.answers.Counted.{Counted}
+use Rattle.coxeter.specs.answers.Counted as counted
 use Rattle.coxeter.specs.Kinds.{pick, kind_of}
 use Rattle.coxeter.specs.Checks.{check, ◌then◌, too_short, rank_refusal, word_refusal}
 use Rattle.coxeter.specs.Calls.{front}
@@ -26,8 +26,8 @@ use Rattle.rules.specs.declared.Rewrite.TheVariants.{Used, NoneFits, Refused}
 use Rattle.rules.specs.Rules.{Rule, rules, first_fitting, rewritten}
 use Rattle.rules.specs.Calls.{past_end, changed, unchanged, rewrite_by, rewrite_at, Rewrote, single}
 use Rattle.rules.proofs.Unchanged.{rewrite_refused-unchanged, rewrite_none_fits_unchanged}
-use Rattle.book_format.specs.declared.Preset.{Preset}
-use Rattle.book_format.specs.declared.Preset.TheVariants as preset
+use Rattle.book_format.specs.answers.Preset.{Preset}
+use Rattle.book_format.specs.answers.Preset as preset
 use Rattle.c_api.specs.Calls.{refused, crossing_numbers, preset_numbers, listed, listed_beside, for_C, rewriting}
 use Rattle.c_api.proofs.Lists.{IsRefusal, roomless, rewrite_numbers, rewrite-numbers, listed_stored, listed_alone, listed-short}
 use Rattle.c_api.proofs.Lists.{beside_stored, beside_alone, beside_roomless}

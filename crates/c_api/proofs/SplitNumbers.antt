@@ -17,8 +17,8 @@ use Rattle.coxeter.specs.Calls.{written}
 use Rattle.coxeter.proofs.Levels.{window_accepted}
 use Rattle.coxeter.proofs.PairWeights.{window_length_le_4096}
 use Rattle.coxeter.proofs.Fronts.{length-window_le}
-use Rattle.shortest_words.specs.declared.Split.{Split}
-use Rattle.shortest_words.specs.declared.Split.TheVariants.{Words, Refused}
+use Rattle.shortest_words.specs.answers.Split.{Split}
+use Rattle.shortest_words.specs.answers.Split.{Words, Refused}
 use Rattle.shortest_words.specs.Allowed.{allows, set_refusal}
 use Rattle.shortest_words.specs.Split.{first_word, second_word}
 use Rattle.shortest_words.specs.SplitCalls.{split_of, split_outcome, splitting, SplitYields}

@@ -12,16 +12,16 @@ use native.Mathlib.Omega.{arith}
 use lib.IntN.{ℤ, pos}
 use lib.ListN.{length, drop}
 use borrow.Author.Tests.{ne_eqb, lt-ltb, le-ltb}
-use Rattle.coxeter.specs.declared.Answer.{Answer}
-use Rattle.coxeter.specs.declared.Answer.TheVariants as answer
+use Rattle.coxeter.specs.answers.Answer.{Answer}
+use Rattle.coxeter.specs.answers.Answer as answer
 use Rattle.coxeter.specs.Kinds.{kind_of}
 use Rattle.coxeter.specs.Checks.{check, ◌then◌, too_short, rank_refusal, word_refusal}
 use Rattle.coxeter.specs.Calls as calls
 use Rattle.coxeter.specs.Calls.{answer_of}
 use Rattle.coxeter.proofs.Refusals.{then_assoc}
 use Rattle.coxeter.proofs.AnswersExactly.{answer_of_exactly}
-use Rattle.traces.specs.declared.ToEnd.{ToEnd}
-use Rattle.traces.specs.declared.ToEnd.TheVariants as to_end
+use Rattle.traces.specs.answers.ToEnd.{ToEnd}
+use Rattle.traces.specs.answers.ToEnd as to_end
 use Rattle.traces.specs.Traces.{trace, too_few_places, to_end_of, traced_by, rewriting_to_end, number_of_steps, TraceYields}
 use Rattle.traces.proofs.Unchanged.{to_end_refused-unchanged}
 use Rattle.traces.proofs.Tracing.{steps_few}

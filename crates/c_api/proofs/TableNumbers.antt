@@ -11,8 +11,8 @@ use lib.ListN.{length, drop}
 use Rattle.coxeter.specs.Kinds.{kind_of}
 use Rattle.coxeter.specs.NormalForm.{normal_form}
 use Rattle.coxeter.specs.Checks.{check, ◌then◌, too_short}
-use Rattle.distribution.specs.declared.Table.{Table}
-use Rattle.distribution.specs.declared.Table.TheVariants.{Written, Refused}
+use Rattle.distribution.specs.answers.Table.{Table}
+use Rattle.distribution.specs.answers.Table.{Written, Refused}
 use Rattle.distribution.specs.Distribution.{distribution}
 use Rattle.distribution.specs.Longest.{longest}
 use Rattle.distribution.specs.Calls.{Tabled, table_refusal, table_of, room_refusal, tables, delay_table, TableYields}

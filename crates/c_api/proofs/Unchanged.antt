@@ -5,12 +5,12 @@ use mathlib.Core.Path.{◌≡◌, sym, ap, ◌∙◌}
 use mathlib.Core.List.{List}
 use Prim.Native.Nat.{ℕ, suc}
 use lib.IntN.{ℤ}
-use Rattle.coxeter.specs.declared.Counted.{Counted}
+use Rattle.coxeter.specs.answers.Counted.{Counted}
 use Rattle.rules.specs.Calls.{rewrite_at, single}
 use Rattle.shortest_words.specs.SplitCalls.{splitting}
 use Rattle.traces.specs.Traces.{rewriting_to_end}
 use Rattle.distribution.specs.Calls.{delay_table}
-use Rattle.book_format.specs.declared.Preset.{Preset}
+use Rattle.book_format.specs.answers.Preset.{Preset}
 use Rattle.c_api.specs.Calls.{refused, crossing_numbers, preset_numbers, listed, rewriting, rewriting_to_end_listed, splitting_listed, delay_table_listed}
 use Rattle.c_api.proofs.Lists.{crossing-numbers, rewrite-numbers, trace-numbers, split-numbers, table-numbers, preset-numbers}
 use Rattle.c_api.proofs.Lists.{listed-unchanged, beside_unchanged}

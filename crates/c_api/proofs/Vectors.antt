@@ -6,10 +6,10 @@ use mathlib.Core.Path.{refl}
 use mathlib.Core.List.{List, [], ◌∷◌}
 use Prim.Native.Nat.{ℕ}
 use lib.IntN.{ℤ, pos, negsuc}
-use Rattle.coxeter.specs.declared.Answer.TheVariants as answer
-use Rattle.coxeter.specs.declared.Verdict.TheVariants as verdict
-use Rattle.coxeter.specs.declared.Choice.TheVariants as choices
-use Rattle.coxeter.specs.declared.Counted.TheVariants as counted
+use Rattle.coxeter.specs.answers.Answer as answer
+use Rattle.coxeter.specs.answers.Verdict as verdict
+use Rattle.coxeter.specs.answers.Choice as choices
+use Rattle.coxeter.specs.answers.Counted as counted
 use Rattle.coxeter.specs.Kinds.{up, kind_of}
 use Rattle.coxeter.specs.Checks.{wrong_kind, wrong_rank, too_long, wrong_letter, too_short, rank_refusal, word_refusal}
 use Rattle.coxeter.specs.NormalForm.{down, rise, fall, block}
@@ -17,12 +17,12 @@ use Rattle.coxeter.specs.Calls.{front}
 use Rattle.coxeter.proofs.Vectors.{Agree}
 use Rattle.rules.specs.Rules.{concat_map, family1, family2, family3, family4, families5to7, rules, begins, fits, first_fitting, rewritten}
 use Rattle.rules.specs.Calls.{past_end, rewrite_by, rewrite_at}
-use Rattle.shortest_words.specs.declared.Fallback.TheVariants as fallback
-use Rattle.shortest_words.specs.declared.Split.TheVariants as split
-use Rattle.traces.specs.declared.ToEnd.TheVariants as to_end
-use Rattle.distribution.specs.declared.Table.TheVariants as table
-use Rattle.book_format.specs.declared.Opened.TheVariants as opened
-use Rattle.book_format.specs.declared.Preset.TheVariants as preset
+use Rattle.shortest_words.specs.answers.Fallback as fallback
+use Rattle.shortest_words.specs.answers.Split as split
+use Rattle.traces.specs.answers.ToEnd as to_end
+use Rattle.distribution.specs.answers.Table as table
+use Rattle.book_format.specs.answers.Opened as opened
+use Rattle.book_format.specs.answers.Preset as preset
 use Rattle.c_api.specs.Calls.{refused, number_of, verdict_number, choice_number, opened_number}
 use Rattle.c_api.specs.Calls.{crossing_numbers, trace_numbers, split_numbers, table_numbers, preset_numbers, listed, listed_beside, rewriting}
 use Rattle.c_api.specs.Shortest.{fallback_number}

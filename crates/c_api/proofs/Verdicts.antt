@@ -12,8 +12,8 @@ use lib.IntN.{ℤ}
 use borrow.Author.Tests.{ne_eqb}
 use Rattle.coxeter.specs.Checks.{rank_refusal}
 use Rattle.coxeter.specs.Calls.{answer_of, written, writes}
-use Rattle.shortest_words.specs.declared.Fallback.{Fallback}
-use Rattle.shortest_words.specs.declared.Fallback.TheVariants.{Kept}
+use Rattle.shortest_words.specs.answers.Fallback.{Fallback}
+use Rattle.shortest_words.specs.answers.Fallback.{Kept}
 use Rattle.shortest_words.specs.Calls.{FellBack}
 use Rattle.shortest_words.specs.Allowed.{set_refusal}
 use Rattle.shortest_words.specs.BetweenCalls.{between_refusal, between_windows}

@@ -3,31 +3,31 @@
 -- Sections: one number; numbers that go to a list; the calls.
 use Rattle.std.specs.Prelude.{◌&&◌, List, [], ◌∷◌, ℕ, ◌+◌, ◌*◌, leb, ℤ, pos, negsuc, neg_ℤ, length, take}
 use Rattle.std.proofs.Math.Option.{Option, none, some}
-use Rattle.coxeter.specs.declared.Answer.{Answer}
-use Rattle.coxeter.specs.declared.Answer.TheVariants as answer
-use Rattle.coxeter.specs.declared.Verdict.{Verdict}
-use Rattle.coxeter.specs.declared.Verdict.TheVariants as verdict
-use Rattle.coxeter.specs.declared.Choice.{Choice}
-use Rattle.coxeter.specs.declared.Choice.TheVariants as choices
-use Rattle.coxeter.specs.declared.Counted.{Counted}
-use Rattle.coxeter.specs.declared.Counted.TheVariants as counted
+use Rattle.coxeter.specs.answers.Answer.{Answer}
+use Rattle.coxeter.specs.answers.Answer as answer
+use Rattle.coxeter.specs.answers.Verdict.{Verdict}
+use Rattle.coxeter.specs.answers.Verdict as verdict
+use Rattle.coxeter.specs.answers.Choice.{Choice}
+use Rattle.coxeter.specs.answers.Choice as choices
+use Rattle.coxeter.specs.answers.Counted.{Counted}
+use Rattle.coxeter.specs.answers.Counted as counted
 use Rattle.coxeter.specs.Kinds.{pick}
 use Rattle.coxeter.specs.Checks.{too_short}
 use Rattle.coxeter.specs.Calls.{front, Outcome}
 use Rattle.rules.specs.Calls.{Interface, rewrite_at}
-use Rattle.shortest_words.specs.declared.Split.{Split}
-use Rattle.shortest_words.specs.declared.Split.TheVariants as split
+use Rattle.shortest_words.specs.answers.Split.{Split}
+use Rattle.shortest_words.specs.answers.Split as split
 use Rattle.shortest_words.specs.SplitCalls.{splitting}
-use Rattle.traces.specs.declared.ToEnd.{ToEnd}
-use Rattle.traces.specs.declared.ToEnd.TheVariants as to_end
+use Rattle.traces.specs.answers.ToEnd.{ToEnd}
+use Rattle.traces.specs.answers.ToEnd as to_end
 use Rattle.traces.specs.Traces.{rewriting_to_end}
-use Rattle.distribution.specs.declared.Table.{Table}
-use Rattle.distribution.specs.declared.Table.TheVariants as table
+use Rattle.distribution.specs.answers.Table.{Table}
+use Rattle.distribution.specs.answers.Table as table
 use Rattle.distribution.specs.Calls.{delay_table}
-use Rattle.book_format.specs.declared.Opened.{Opened}
-use Rattle.book_format.specs.declared.Opened.TheVariants as opened
-use Rattle.book_format.specs.declared.Preset.{Preset}
-use Rattle.book_format.specs.declared.Preset.TheVariants as preset
+use Rattle.book_format.specs.answers.Opened.{Opened}
+use Rattle.book_format.specs.answers.Opened as opened
+use Rattle.book_format.specs.answers.Preset.{Preset}
+use Rattle.book_format.specs.answers.Preset as preset
 
 -- ---- one number
 

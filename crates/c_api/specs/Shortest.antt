@@ -1,8 +1,8 @@
 -- What the call for C on fallbacks returns and writes, from what the layer's call does (IC4 and I18 of the
 -- specification).
 use Rattle.std.specs.Prelude.{◌≡◌, List, ℕ, ℤ, pos}
-use Rattle.shortest_words.specs.declared.Fallback.{Fallback}
-use Rattle.shortest_words.specs.declared.Fallback.TheVariants as fallback
+use Rattle.shortest_words.specs.answers.Fallback.{Fallback}
+use Rattle.shortest_words.specs.answers.Fallback as fallback
 use Rattle.shortest_words.specs.Calls.{fallback_answer, FellBack}
 use Rattle.c_api.specs.Calls.{refused}
 

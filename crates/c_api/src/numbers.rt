@@ -2,8 +2,8 @@
 ghost use Rattle.std.specs.Prelude.{◌≡◌, ℕ, ◌+◌, ◌^◌, ◌≤◌, ◌<◌, ltb, pos};
 ghost use Rattle.coxeter.specs.Kinds.{pick};
 ghost use Rattle.coxeter.specs.Checks.{◌then◌};
-ghost use Rattle.coxeter.specs.declared.Answer.TheVariants.{Length};
-ghost use Rattle.coxeter.specs.declared.Counted.TheVariants.{Crossings};
+ghost use Rattle.coxeter.specs.answers.Answer.{Length};
+ghost use Rattle.coxeter.specs.answers.Counted.{Crossings};
 ghost use Rattle.c_api.specs.Calls.{refused, number_of, crossing_numbers, listed};
 
 use window::{Answer, Counted};

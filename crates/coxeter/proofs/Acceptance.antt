@@ -11,7 +11,9 @@ use lib.ListN.{length}
 use borrow.Author.Tests.{ltb-false}
 use Rattle.coxeter.proofs.Basics.{or_false_left, or_false_right}
 use Rattle.coxeter.proofs.Refusals.{then_zero, check_zero}
-use Rattle.coxeter.specs.Kinds.{Kind, A, B, D, kind_of, lanes, least, greatest}
+use Rattle.coxeter.specs.declared.Kind.{Kind}
+use Rattle.coxeter.specs.declared.Kind.TheVariants.{A, B, D}
+use Rattle.coxeter.specs.Kinds.{kind_of, lanes, least, greatest}
 use Rattle.coxeter.specs.Checks.{check, ◌then◌, wrong_kind, wrong_rank, too_long, wrong_letter}
 use Rattle.coxeter.specs.Checks.{rank_refusal, word_refusal, window_refusal, RankOf, WordOf, WindowOf}
 

@@ -7,11 +7,11 @@ use mathlib.Core.Logic.Iff
 use mathlib.Core.Logic.{◌↔◌}
 use Prim.Native.Nat.{ℕ}
 use lib.Dec.{eqb}
-use Rattle.coxeter.specs.declared.Answer.TheVariants.{Length, Refused}
-use Rattle.coxeter.specs.declared.Lanes.TheVariants as lane_count
-use Rattle.coxeter.specs.declared.Verdict.{Verdict}
-use Rattle.coxeter.specs.declared.Verdict.TheVariants as verdict
-use Rattle.coxeter.specs.declared.Counted.TheVariants as counted
+use Rattle.coxeter.specs.answers.Answer.{Length, Refused}
+use Rattle.coxeter.specs.answers.Lanes as lane_count
+use Rattle.coxeter.specs.answers.Verdict.{Verdict}
+use Rattle.coxeter.specs.answers.Verdict as verdict
+use Rattle.coxeter.specs.answers.Counted as counted
 use Rattle.coxeter.specs.Kinds.{pick}
 use Rattle.coxeter.specs.Length.{Crossings}
 use Rattle.coxeter.specs.Calls.{answer_of, lanes_of, verdict_of, counted_of}

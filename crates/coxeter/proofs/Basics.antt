@@ -11,7 +11,9 @@ use native.Mathlib.Nat.{add-suc, suc-add, add-zero, zero-add}
 use lib.Dec.{eqb}
 use lib.IntN.{ℤ, pos}
 use lib.ListN.{length, length-map}
-use Rattle.coxeter.specs.Kinds.{Kind, A, B, D, pick, lanes, up}
+use Rattle.coxeter.specs.declared.Kind.{Kind}
+use Rattle.coxeter.specs.declared.Kind.TheVariants.{A, B, D}
+use Rattle.coxeter.specs.Kinds.{pick, lanes, up}
 use Rattle.coxeter.specs.Windows.{from, swap, negate_first, swap_negate, act, window_from, identity, window}
 
 -- ---- tests and cases

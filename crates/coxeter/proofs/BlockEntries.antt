@@ -13,7 +13,9 @@ use native.Mathlib.Omega.{arith}
 use lib.ListN.{length, get_or, length-append, get_or-append}
 use lib.Seq.{get_or_at}
 use borrow.Author.Tests.{le-leb, lt-leb, lt-ltb, le-ltb}
-use Rattle.coxeter.specs.Kinds.{Kind, A, B, D, up}
+use Rattle.coxeter.specs.declared.Kind.{Kind}
+use Rattle.coxeter.specs.declared.Kind.TheVariants.{A, B, D}
+use Rattle.coxeter.specs.Kinds.{up}
 use Rattle.coxeter.specs.NormalForm.{down, rise, fall, block, levels, last_index, blocks, Indices, none, level}
 use Rattle.coxeter.proofs.Basics.{length_up}
 use Rattle.coxeter.proofs.Lists.{get_or-joined}

@@ -10,7 +10,7 @@ use mathlib.Core.List.{List, ◌++◌, reverse}
 use Prim.Native.Nat.{ℕ, ◌≤◌, ◌<◌}
 use lib.IntN.{ℤ}
 use lib.ListN.{length, take, drop}
-use Rattle.coxeter.specs.declared.Answer.TheVariants.{Length, Refused}
+use Rattle.coxeter.specs.answers.Answer.{Length, Refused}
 use Rattle.coxeter.specs.Kinds.{kind_of, lanes}
 use Rattle.coxeter.specs.Windows.{window, product, inverse}
 use Rattle.coxeter.specs.Checks.{RankOf, WordOf, WindowOf}

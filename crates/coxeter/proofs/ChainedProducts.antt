@@ -11,7 +11,7 @@ use lib.Dec.{eqb, ltb}
 use lib.IntN.{ℤ}
 use lib.ListN.{length, take, length-append, length-reverse}
 use borrow.Author.Tests.{le-ltb}
-use Rattle.coxeter.specs.declared.Answer.TheVariants.{Length}
+use Rattle.coxeter.specs.answers.Answer.{Length}
 use Rattle.coxeter.specs.Kinds.{kind_of, lanes}
 use Rattle.coxeter.specs.Windows.{identity, window, product, inverse}
 use Rattle.coxeter.specs.Checks.{check, ◌then◌, too_long, wrong_letter, word_refusal}

@@ -16,7 +16,8 @@ use native.Mathlib.Omega.{arith}
 use lib.Dec.{eqb, ltb}
 use lib.ListN.{length, get_or}
 use borrow.Author.Tests.{le-ltb, ltb-false}
-use Rattle.coxeter.specs.Kinds.{A, B, D, kind_of}
+use Rattle.coxeter.specs.declared.Kind.TheVariants.{A, B, D}
+use Rattle.coxeter.specs.Kinds.{kind_of}
 use Rattle.coxeter.specs.Checks.{check, ◌then◌, too_long, wrong_letter, too_short, word_refusal, WordOf}
 use Rattle.coxeter.proofs.TestLaws.{not_true_false, eqb_exactly, ltb_exactly, or_exactly, some_place}
 use Rattle.coxeter.proofs.Acceptance.{length_accepted, letters_accepted}

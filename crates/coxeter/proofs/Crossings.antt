@@ -14,7 +14,8 @@ use lib.IntN.{ℤ, pos, negsuc, neg_ℤ, nat_abs, neg_ℤ-neg_ℤ}
 use lib.ListN.{length, get_or, drop}
 use lib.Seq.{drop-cons}
 use borrow.Author.Tests.{ne_eqb, eqb-false, ltb-true, ltb-false, lt-ltb, le-ltb}
-use Rattle.coxeter.specs.Kinds.{Kind, A, B, D}
+use Rattle.coxeter.specs.declared.Kind.{Kind}
+use Rattle.coxeter.specs.declared.Kind.TheVariants.{A, B, D}
 use Rattle.coxeter.specs.Windows.{from, swap, negate_first, swap_negate}
 use Rattle.coxeter.specs.Length.{later, negative, one, later_than, negatives}
 use Rattle.coxeter.specs.Checks.{has_size}

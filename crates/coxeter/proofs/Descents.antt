@@ -13,7 +13,9 @@ use lib.Dec.{eqb}
 use lib.IntN.{ℤ, pos, neg_ℤ}
 use lib.ListN.{length, get_or, drop, drop_of_length-le}
 use borrow.Author.Tests.{eq-eqb, ne_eqb}
-use Rattle.coxeter.specs.Kinds.{Kind, A, B, D, pick, lanes, least}
+use Rattle.coxeter.specs.declared.Kind.{Kind}
+use Rattle.coxeter.specs.declared.Kind.TheVariants.{A, B, D}
+use Rattle.coxeter.specs.Kinds.{pick, lanes, least}
 use Rattle.coxeter.specs.Windows.{from, swap, negate_first, swap_negate, act, at}
 use Rattle.coxeter.specs.Length.{later, negative, one, window_length}
 use Rattle.coxeter.proofs.Sizes.{nat_abs-neg_ℤ}

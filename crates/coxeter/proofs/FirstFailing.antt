@@ -14,7 +14,8 @@ use lib.Dec.{eqb, eqb-suc-zero}
 use lib.IntN.{ℤ}
 use lib.ListN.{length, get_or}
 use borrow.Author.Tests.{eq-eqb}
-use Rattle.coxeter.specs.Kinds.{Kind, pick, kind_of, lanes}
+use Rattle.coxeter.specs.declared.Kind.{Kind}
+use Rattle.coxeter.specs.Kinds.{pick, kind_of, lanes}
 use Rattle.coxeter.specs.Checks.{check, ◌then◌, first_of, wrong_kind, wrong_rank, too_long, wrong_letter, wrong_lanes, wrong_entry}
 use Rattle.coxeter.specs.Checks.{odd_negatives, rank_refusal, word_refusal, window_refusal}
 use Rattle.coxeter.proofs.Basics.{or_false_left, or_false_right}

@@ -8,8 +8,8 @@ use native.Mathlib.Omega.{arith}
 use lib.IntN.{ℤ}
 use lib.ListN.{length, length-append}
 use borrow.Author.Tests.{eq-eqb}
-use Rattle.coxeter.specs.declared.Answer.TheVariants.{Length}
-use Rattle.coxeter.specs.declared.Counted.TheVariants as counted
+use Rattle.coxeter.specs.answers.Answer.{Length}
+use Rattle.coxeter.specs.answers.Counted as counted
 use Rattle.coxeter.proofs.Levels.{Accepted, window_accepted, accepted_of_refusal}
 use Rattle.coxeter.proofs.Products.{window-append}
 use Rattle.coxeter.proofs.Inverses.{window-reverse}
@@ -18,7 +18,8 @@ use Rattle.coxeter.proofs.NormalForms.{normal_form_is_blocks, normal_form-blocks
 use Rattle.coxeter.proofs.Lengths.{block_length, length-block, length-normal_form}
 use Rattle.coxeter.proofs.GreatestLengths.{greatest_indices, indices-greatest, window_length_of_greatest}
 use Rattle.coxeter.proofs.AnswersExactly.{counted_of_exactly}
-use Rattle.coxeter.specs.Kinds.{Kind, kind_of, least}
+use Rattle.coxeter.specs.declared.Kind.{Kind}
+use Rattle.coxeter.specs.Kinds.{kind_of, least}
 use Rattle.coxeter.specs.Windows.{window, product, inverse}
 use Rattle.coxeter.specs.Length.{Crossings, total, window_length, greatest_length}
 use Rattle.coxeter.specs.Checks.{rank_refusal, word_refusal, window_refusal, RankOf, WordOf, WindowOf}

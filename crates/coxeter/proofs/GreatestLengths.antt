@@ -11,7 +11,9 @@ use borrow.Author.Tests.{le-ltb}
 use lib.Dec.{ltb}
 use lib.IntN.{ℤ, nat_abs}
 use lib.ListN.{length, length-append}
-use Rattle.coxeter.specs.Kinds.{Kind, A, B, D, pick, least, up}
+use Rattle.coxeter.specs.declared.Kind.{Kind}
+use Rattle.coxeter.specs.declared.Kind.TheVariants.{A, B, D}
+use Rattle.coxeter.specs.Kinds.{pick, least, up}
 use Rattle.coxeter.specs.Length.{negative, one, negatives, window_length, greatest_length}
 use Rattle.coxeter.specs.NormalForm.{block, levels, last_index, blocks, Indices, none, level, normal_form}
 use Rattle.coxeter.proofs.Levels.{Accepted}

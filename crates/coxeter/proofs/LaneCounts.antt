@@ -5,13 +5,18 @@ use mathlib.Core.Path.{◌≡◌, refl, sym, ap, ◌∙◌}
 use mathlib.Core.List.{List}
 use Prim.Native.Nat.{ℕ}
 use borrow.Author.Tests.{ne_eqb}
-use Rattle.coxeter.specs.declared.Lanes.{Lanes}
-use Rattle.coxeter.specs.declared.Lanes.TheVariants.{Count, Refused}
+use Rattle.std.specs.Prelude.{Result, Ok, Err, IsErr, IsErrAnd}
+use Rattle.coxeter.specs.declared.Group.{Group}
+use Rattle.coxeter.specs.declared.Refusal.{Refusal}
+use Rattle.coxeter.specs.Refusals.{number}
+use Rattle.coxeter.specs.answers.Lanes.{Lanes, as_lanes}
+use Rattle.coxeter.specs.answers.Lanes.{Count, Refused}
 use Rattle.coxeter.specs.Kinds.{kind_of, lanes}
 use Rattle.coxeter.specs.Checks.{◌then◌, rank_refusal, word_refusal, RankOf, WordOf}
 use Rattle.coxeter.specs.Calls.{lanes_of}
 use Rattle.coxeter.proofs.Refusals.{then_zero, then_none, then_refused, then_next, then_assoc}
 use Rattle.coxeter.proofs.Acceptance.{words_accepted}
+use Rattle.coxeter.proofs.Groups.{number_positive}
 use Rattle.coxeter.proofs.AnswersExactly.{lanes_of_exactly}
 
 pub lanes-refused : (q m r : ℕ) → r ≡ q → (r ≡ 0 → ⊥) → Refused r ≡ lanes_of q m
@@ -21,6 +26,11 @@ lanes-refused q m r e f = rw (← e, ne_eqb r 0 f)
 pub lanes_counted : (q m a : ℕ) → q ≡ 0 → a ≡ m → Count a ≡ lanes_of q m
 unfolding lanes_of
 lanes_counted q m a z v = rw (z, v)
+
+-- a result that `?` makes of the refusal e
+pub lanes_handed_on : (q m : ℕ) (r : Result Group Refusal) (e : Refusal) → IsErr r × IsErrAnd r (λ (x : Refusal). x ≡ e) → number e ≡ q → as_lanes r ≡ lanes_of q m
+lanes_handed_on q m (Ok g) e h s = absurd h.1
+lanes_handed_on q m (Err x) e h s = lanes-refused q m (number x) (ap number h.1 ∙ s) (number_positive x)
 
 -- the answer r of checks with the refusal q
 module _ (q m : ℕ) (r : Lanes) (e : r ≡ lanes_of q m) where

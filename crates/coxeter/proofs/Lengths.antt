@@ -12,7 +12,9 @@ use borrow.Author.Tests.{ltb-false, leb-false, lt-ltb, le-ltb}
 use lib.Dec.{leb, ltb}
 use lib.IntN.{ℤ, pos, negsuc, nat_abs}
 use lib.ListN.{length, length-append}
-use Rattle.coxeter.specs.Kinds.{Kind, A, B, D, pick, lanes}
+use Rattle.coxeter.specs.declared.Kind.{Kind}
+use Rattle.coxeter.specs.declared.Kind.TheVariants.{A, B, D}
+use Rattle.coxeter.specs.Kinds.{pick, lanes}
 use Rattle.coxeter.specs.Windows.{from, negate_first, signed}
 use Rattle.coxeter.specs.Length.{negative, one, negatives, window_length}
 use Rattle.coxeter.specs.Checks.{has_size, negative_in_A}

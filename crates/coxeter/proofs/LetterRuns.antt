@@ -10,7 +10,9 @@ use native.Mathlib.Omega.{arith}
 use lib.Dec.{leb}
 use borrow.Author.Tests.{le-leb, lt-leb, lt-ltb, le-ltb}
 use lib.ListN.{length}
-use Rattle.coxeter.specs.Kinds.{Kind, A, B, D, pick, up}
+use Rattle.coxeter.specs.declared.Kind.{Kind}
+use Rattle.coxeter.specs.declared.Kind.TheVariants.{A, B, D}
+use Rattle.coxeter.specs.Kinds.{pick, up}
 use Rattle.coxeter.proofs.Basics.{length_up, up-append}
 use Rattle.coxeter.specs.NormalForm.{down, rise, fall, block, levels, last_index}
 

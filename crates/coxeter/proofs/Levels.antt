@@ -11,7 +11,9 @@ use lib.Dec.{eqb, ltb}
 use lib.IntN.{ℤ, pos, neg_ℤ, nat_abs}
 use lib.ListN.{length}
 use borrow.Author.Tests.{eqb-true, eqb-false, eq-eqb, ne_eqb, ltb-false, le-ltb, not-false}
-use Rattle.coxeter.specs.Kinds.{Kind, A, B, D, pick, lanes, up}
+use Rattle.coxeter.specs.declared.Kind.{Kind}
+use Rattle.coxeter.specs.declared.Kind.TheVariants.{A, B, D}
+use Rattle.coxeter.specs.Kinds.{pick, lanes, up}
 use Rattle.coxeter.specs.Windows.{from, swap, negate_first, swap_negate, act, window_from, identity, window}
 use Rattle.coxeter.specs.Length.{negatives}
 use Rattle.coxeter.specs.Checks.{check, ◌then◌, has_size, wrong_lanes, wrong_at, wrong_entry, odd, odd_negatives, window_refusal, WindowOf}

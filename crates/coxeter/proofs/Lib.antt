@@ -10,6 +10,8 @@ pub mod FirstFailing
 pub mod FirstRefusals
 pub mod LetterLaws
 pub mod Acceptance
+pub mod Groups
+pub mod Results
 pub mod Sizes
 pub mod Levels
 pub mod Steps

@@ -11,7 +11,9 @@ use native.Mathlib.Decide.{dec_le}
 use native.Mathlib.Omega.{arith}
 use lib.IntN.{ℤ, pos}
 use borrow.Author.Tests.{eq-eqb}
-use Rattle.coxeter.specs.Kinds.{Kind, A, B, D, lanes, up}
+use Rattle.coxeter.specs.declared.Kind.{Kind}
+use Rattle.coxeter.specs.declared.Kind.TheVariants.{A, B, D}
+use Rattle.coxeter.specs.Kinds.{lanes, up}
 use Rattle.coxeter.specs.Windows.{identity, window, place_from, signed}
 use Rattle.coxeter.specs.Checks.{wrong_letter}
 use Rattle.coxeter.specs.NormalForm.{down, block, levels, last_index, blocks, Indices, none, level, without, index_of, rest_of, normal_from, normal_form}

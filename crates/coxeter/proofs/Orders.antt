@@ -13,8 +13,9 @@ use Prim.Native.Nat.{ℕ, ◌<◌}
 use lib.Dec.{eqb}
 use lib.ListN.{length}
 use borrow.Author.Tests.{eqb-true, eq-eqb}
-use Rattle.coxeter.specs.declared.Choice.TheVariants as choices
-use Rattle.coxeter.specs.Kinds.{Kind, pick, kind_of, lanes}
+use Rattle.coxeter.specs.answers.Choice as choices
+use Rattle.coxeter.specs.declared.Kind.{Kind}
+use Rattle.coxeter.specs.Kinds.{pick, kind_of, lanes}
 use Rattle.coxeter.specs.Windows.{window}
 use Rattle.coxeter.specs.Dictionary.{before, shortlex}
 use Rattle.coxeter.specs.Checks.{◌then◌, rank_refusal, word_refusal, RankOf, WordOf}

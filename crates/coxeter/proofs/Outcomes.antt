@@ -6,7 +6,7 @@ use mathlib.Core.List.{List, ◌++◌}
 use Prim.Native.Nat.{ℕ, ◌≤◌, ◌<◌}
 use lib.ListN.{length, drop}
 use borrow.Author.Tests.{eq-eqb, ne_eqb, lt-ltb, le-ltb}
-use Rattle.coxeter.specs.declared.Answer.TheVariants.{Length, Refused}
+use Rattle.coxeter.specs.answers.Answer.{Length, Refused}
 use Rattle.coxeter.proofs.FrontLaws.{front_parts}
 use Rattle.coxeter.specs.Kinds.{kind_of, lanes}
 use Rattle.coxeter.specs.Windows.{window}
@@ -15,9 +15,9 @@ use Rattle.coxeter.specs.Length.{Crossings}
 use Rattle.coxeter.specs.Calls.{front, Outcome, Yields, answer_of, written, writes, verdict_of}
 use Rattle.coxeter.specs.Calls.{counted_of, same_window, equal_words, same_presets, presets_equal, hands_back}
 use native.Mathlib.Decide.{ℕ_discrete}
-use Rattle.coxeter.specs.declared.Answer.{Answer}
-use Rattle.coxeter.specs.declared.Verdict.TheVariants as verdict
-use Rattle.coxeter.specs.declared.Counted.TheVariants as counted
+use Rattle.coxeter.specs.answers.Answer.{Answer}
+use Rattle.coxeter.specs.answers.Verdict as verdict
+use Rattle.coxeter.specs.answers.Counted as counted
 
 -- ---- calls that write
 

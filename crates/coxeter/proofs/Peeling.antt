@@ -11,7 +11,9 @@ use lib.Dec.{eqb}
 use lib.IntN.{ℤ, pos, negsuc, nat_abs}
 use lib.ListN.{length, length-append}
 use borrow.Author.Tests.{eqb-true, eqb-false, eq-eqb, ne_eqb}
-use Rattle.coxeter.specs.Kinds.{Kind, A, B, D, lanes, up}
+use Rattle.coxeter.specs.declared.Kind.{Kind}
+use Rattle.coxeter.specs.declared.Kind.TheVariants.{A, B, D}
+use Rattle.coxeter.specs.Kinds.{lanes, up}
 use Rattle.coxeter.specs.Windows.{from, negate_first, act, signed, place_from}
 use Rattle.coxeter.specs.Length.{negative, negatives, one}
 use Rattle.coxeter.specs.Checks.{has_size, negative_in_A, odd}

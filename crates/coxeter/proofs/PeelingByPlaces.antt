@@ -14,7 +14,9 @@ use lib.Count.{ones}
 use lib.Dec.{eqb, leb}
 use lib.IntN.{ℤ, pos, nat_abs}
 use lib.ListN.{length, get_or}
-use Rattle.coxeter.specs.Kinds.{Kind, A, B, D, pick}
+use Rattle.coxeter.specs.declared.Kind.{Kind}
+use Rattle.coxeter.specs.declared.Kind.TheVariants.{A, B, D}
+use Rattle.coxeter.specs.Kinds.{pick}
 use Rattle.coxeter.specs.Length.{negative}
 use Rattle.coxeter.specs.NormalForm.{block}
 

@@ -13,7 +13,9 @@ use lib.Dec.{eqb}
 use lib.IntN.{ℤ, pos, negsuc, neg_ℤ, nat_abs, neg_ℤ-neg_ℤ}
 use lib.ListN.{length, get_or, length-map, get_or-map}
 use lib.Seq.{ext_get_or}
-use Rattle.coxeter.specs.Kinds.{Kind, A, B, D, lanes, up}
+use Rattle.coxeter.specs.declared.Kind.{Kind}
+use Rattle.coxeter.specs.declared.Kind.TheVariants.{A, B, D}
+use Rattle.coxeter.specs.Kinds.{lanes, up}
 use Rattle.coxeter.specs.Windows.{from, swap, negate_first, swap_negate, act, window_from, identity, window, at, product}
 use Rattle.coxeter.proofs.Basics.{length-identity, length-window, window_from-append, by_pick}
 use Rattle.coxeter.proofs.Levels.{Between}

@@ -11,7 +11,8 @@ use native.Mathlib.Omega.{arith}
 use lib.Dec.{eqb, eqb-suc-zero}
 use lib.IntN.{ℤ}
 use borrow.Author.Tests.{eq-eqb, ne_eqb}
-use Rattle.coxeter.specs.Kinds.{Kind, pick, kind_of, lanes}
+use Rattle.coxeter.specs.declared.Kind.{Kind}
+use Rattle.coxeter.specs.Kinds.{pick, kind_of, lanes}
 use Rattle.coxeter.specs.Checks.{check, ◌then◌, wrong_kind, wrong_rank, too_long, wrong_letter}
 use Rattle.coxeter.specs.Checks.{wrong_lanes, wrong_entry, odd_negatives, rank_refusal, word_refusal, window_refusal}
 use Rattle.coxeter.proofs.TestLaws.{impossible, Apart}

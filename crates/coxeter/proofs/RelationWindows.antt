@@ -13,7 +13,9 @@ use native.Mathlib.Decide.{ℕ_discrete}
 use native.Mathlib.Omega.{arith}
 use lib.IntN.{ℤ, pos, negsuc, neg_ℤ}
 use lib.ListN.{length, get_or}
-use Rattle.coxeter.specs.Kinds.{Kind, A, B, D, lanes}
+use Rattle.coxeter.specs.declared.Kind.{Kind}
+use Rattle.coxeter.specs.declared.Kind.TheVariants.{A, B, D}
+use Rattle.coxeter.specs.Kinds.{lanes}
 use Rattle.coxeter.specs.Windows.{act, window_from, identity, window}
 use Rattle.coxeter.specs.Relations.{Neighbours, FourfoldPair, Commuting, threefold, fourfold, commute, Relation, twice, braid}
 use Rattle.coxeter.proofs.Basics.{length-act, length-identity}

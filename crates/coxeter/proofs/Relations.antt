@@ -15,7 +15,9 @@ use lib.Dec.{eqb, ltb}
 use lib.IntN.{ℤ}
 use lib.ListN.{length, length-append}
 use borrow.Author.Tests.{le-ltb, ne_eqb}
-use Rattle.coxeter.specs.Kinds.{Kind, A, B, D, lanes}
+use Rattle.coxeter.specs.declared.Kind.{Kind}
+use Rattle.coxeter.specs.declared.Kind.TheVariants.{A, B, D}
+use Rattle.coxeter.specs.Kinds.{lanes}
 use Rattle.coxeter.specs.Windows.{swap, negate_first, swap_negate, act, window_from, identity, window}
 use Rattle.coxeter.specs.Relations.{Neighbours, FourfoldPair, Commuting, Braid, threefold, fourfold, commute}
 use Rattle.coxeter.specs.Relations.{Relation, twice, braid, Application, forth, back, Congruent}

@@ -12,8 +12,8 @@ use native.Mathlib.Omega.{arith}
 use lib.IntN.{ℤ}
 use lib.ListN.{length}
 use borrow.Author.Tests.{eq-eqb, ne_eqb}
-use Rattle.coxeter.specs.declared.Answer.TheVariants.{Length, Refused}
-use Rattle.coxeter.specs.declared.Counted.TheVariants as counted
+use Rattle.coxeter.specs.answers.Answer.{Length, Refused}
+use Rattle.coxeter.specs.answers.Counted as counted
 use Rattle.coxeter.specs.Kinds.{kind_of}
 use Rattle.coxeter.specs.Windows.{window}
 use Rattle.coxeter.specs.Length.{window_length}

@@ -15,10 +15,12 @@ use lib.Dec.{ltb}
 use lib.IntN.{ℤ}
 use lib.ListN.{length, take}
 use borrow.Author.Tests.{eq-eqb, ne_eqb, lt-ltb, le-ltb}
-use Rattle.coxeter.specs.declared.Answer.TheVariants.{Length, Refused}
-use Rattle.coxeter.specs.declared.Verdict.TheVariants as verdict
-use Rattle.coxeter.specs.declared.Counted.TheVariants as counted
-use Rattle.coxeter.specs.Kinds.{Kind, A, B, D, kind_of, lanes}
+use Rattle.coxeter.specs.answers.Answer.{Length, Refused}
+use Rattle.coxeter.specs.answers.Verdict as verdict
+use Rattle.coxeter.specs.answers.Counted as counted
+use Rattle.coxeter.specs.declared.Kind.{Kind}
+use Rattle.coxeter.specs.declared.Kind.TheVariants.{A, B, D}
+use Rattle.coxeter.specs.Kinds.{kind_of, lanes}
 use Rattle.coxeter.specs.Windows.{window}
 use Rattle.coxeter.specs.Length.{negative, inversions, negative_sum_pairs, negatives, Crossings, crossings, total, window_length}
 use Rattle.coxeter.specs.Checks.{check, ◌then◌, wrong_kind, wrong_rank, wrong_lanes, wrong_entry, odd_negatives}

@@ -12,7 +12,9 @@ use lib.Dec.{eqb, ltb}
 use lib.IntN.{ℤ, pos, negsuc, neg_ℤ, nat_abs}
 use lib.ListN.{length}
 use borrow.Author.Tests.{eqb-false}
-use Rattle.coxeter.specs.Kinds.{Kind, A, B, D, pick}
+use Rattle.coxeter.specs.declared.Kind.{Kind}
+use Rattle.coxeter.specs.declared.Kind.TheVariants.{A, B, D}
+use Rattle.coxeter.specs.Kinds.{pick}
 use Rattle.coxeter.specs.Windows.{from, swap, swap_negate}
 use Rattle.coxeter.specs.Length.{negative, negatives, one}
 use Rattle.coxeter.specs.Checks.{has_size, wrong_at, wrong_entry, negative_in_A, odd}

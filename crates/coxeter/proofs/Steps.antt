@@ -13,7 +13,9 @@ use lib.Dec.{eqb}
 use lib.IntN.{ℤ, neg_ℤ-neg_ℤ}
 use lib.ListN.{length}
 use borrow.Author.Tests.{eq-eqb, ne_eqb}
-use Rattle.coxeter.specs.Kinds.{Kind, A, B, D, lanes}
+use Rattle.coxeter.specs.declared.Kind.{Kind}
+use Rattle.coxeter.specs.declared.Kind.TheVariants.{A, B, D}
+use Rattle.coxeter.specs.Kinds.{lanes}
 use Rattle.coxeter.specs.Windows.{from, swap, negate_first, swap_negate, act}
 use Rattle.coxeter.proofs.Basics.{by_pick}
 

@@ -16,8 +16,10 @@ use lib.Dec.{eqb}
 use lib.IntN.{ℤ}
 use lib.ListN.{length}
 use borrow.Author.Tests.{eq-eqb, le-ltb}
-use Rattle.coxeter.specs.declared.Verdict.TheVariants as verdict
-use Rattle.coxeter.specs.Kinds.{Kind, B, pick, kind_of, lanes, least}
+use Rattle.coxeter.specs.answers.Verdict as verdict
+use Rattle.coxeter.specs.declared.Kind.{Kind}
+use Rattle.coxeter.specs.declared.Kind.TheVariants.{B}
+use Rattle.coxeter.specs.Kinds.{pick, kind_of, lanes, least}
 use Rattle.coxeter.specs.Windows.{act, identity, window, product, inverse}
 use Rattle.coxeter.specs.Length.{window_length, greatest_length}
 use Rattle.coxeter.specs.Dictionary.{shortlex}

@@ -10,10 +10,10 @@ use native.Mathlib.Nat.{le_trans}
 use native.Mathlib.Omega.{arith}
 use lib.Dec.{eqb}
 use lib.IntN.{ℤ}
-use Rattle.coxeter.specs.declared.Answer.{Answer}
-use Rattle.coxeter.specs.declared.Answer.TheVariants as answer
-use Rattle.coxeter.specs.declared.Counted.{Counted}
-use Rattle.coxeter.specs.declared.Counted.TheVariants as counted
+use Rattle.coxeter.specs.answers.Answer.{Answer}
+use Rattle.coxeter.specs.answers.Answer as answer
+use Rattle.coxeter.specs.answers.Counted.{Counted}
+use Rattle.coxeter.specs.answers.Counted as counted
 use Rattle.coxeter.specs.Kinds.{pick, kind_of}
 use Rattle.coxeter.specs.Windows.{window}
 use Rattle.coxeter.specs.Length.{Crossings, crossings, total, window_length}

@@ -10,10 +10,11 @@ use Prim.Native.Nat.{ℕ}
 use lib.IntN.{ℤ, pos, neg_ℤ}
 use native.Mathlib.Omega.{arith}
 use lib.ListN.{length, replicate}
-use Rattle.coxeter.specs.declared.Answer.TheVariants.{Refused}
-use Rattle.coxeter.specs.declared.Verdict.{Verdict}
-use Rattle.coxeter.specs.declared.Verdict.TheVariants as verdict
-use Rattle.coxeter.specs.Kinds.{A, B, D, kind_of, up}
+use Rattle.coxeter.specs.answers.Answer.{Refused}
+use Rattle.coxeter.specs.answers.Verdict.{Verdict}
+use Rattle.coxeter.specs.answers.Verdict as verdict
+use Rattle.coxeter.specs.declared.Kind.TheVariants.{A, B, D}
+use Rattle.coxeter.specs.Kinds.{kind_of, up}
 use Rattle.coxeter.specs.Windows.{from, swap, negate_first, swap_negate, act, window_from, identity, window, signed, place_from}
 use Rattle.coxeter.specs.Length.{negative, one, negatives}
 use Rattle.coxeter.specs.Checks.{wrong_kind, wrong_rank, too_long, wrong_letter, wrong_lanes, has_size, negative_in_A, wrong_at}

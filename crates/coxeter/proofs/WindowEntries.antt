@@ -16,7 +16,9 @@ use lib.IntN.{ℤ, pos, negsuc, neg_ℤ, nat_abs}
 use lib.ListN.{length, get_or, set, length-set, length-map, get_or-eq_default}
 use lib.Seq.{get_or-set_same, get_or-set_other}
 use borrow.Author.Tests.{lt-ltb, le-ltb}
-use Rattle.coxeter.specs.Kinds.{Kind, B, D, pick, lanes, up}
+use Rattle.coxeter.specs.declared.Kind.{Kind}
+use Rattle.coxeter.specs.declared.Kind.TheVariants.{B, D}
+use Rattle.coxeter.specs.Kinds.{pick, lanes, up}
 use Rattle.coxeter.specs.Windows.{from, swap, negate_first, swap_negate, act, window_from, identity, window, at, product, inverse}
 use Rattle.coxeter.specs.Length.{later}
 use Rattle.coxeter.specs.Checks.{WindowOf}

@@ -18,7 +18,9 @@ use lib.IntN.{ℤ, pos, negsuc, nat_abs}
 use lib.ListN.{length, get_or, drop, length-drop}
 use lib.Seq.{get_or-drop}
 use borrow.Author.Tests.{eqb-true, eqb-false, eq-eqb, ne_eqb, not-true, not-false}
-use Rattle.coxeter.specs.Kinds.{Kind, A, B, D, pick, lanes}
+use Rattle.coxeter.specs.declared.Kind.{Kind}
+use Rattle.coxeter.specs.declared.Kind.TheVariants.{A, B, D}
+use Rattle.coxeter.specs.Kinds.{pick, lanes}
 use Rattle.coxeter.specs.Length.{negative, negatives, one}
 use Rattle.coxeter.specs.Checks.{check, ◌then◌, wrong_lanes, has_size, negative_in_A, wrong_at, wrong_entry, odd, odd_negatives}
 use Rattle.coxeter.specs.Checks.{window_refusal, WindowOf}

@@ -12,8 +12,8 @@ use native.Mathlib.Nat.{lt_of_not-le}
 use native.Mathlib.Decide.{ℕ_discrete, dec_le}
 use native.Mathlib.Omega.{arith}
 use lib.ListN.{length, take, drop}
-use Rattle.coxeter.specs.declared.Answer.{Answer}
-use Rattle.coxeter.specs.declared.Answer.TheVariants.{Length, Refused}
+use Rattle.coxeter.specs.answers.Answer.{Answer}
+use Rattle.coxeter.specs.answers.Answer.{Length, Refused}
 use Rattle.coxeter.specs.Calls.{front, Yields, writes}
 use Rattle.coxeter.proofs.FrontLaws.{take-front, drop-front}
 use Rattle.coxeter.proofs.Outcomes.{writes-refused, writes_short, writes-written}

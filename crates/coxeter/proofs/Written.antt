@@ -11,7 +11,7 @@ use mathlib.Core.List.{List, ◌++◌, reverse}
 use Prim.Native.Nat.{ℕ}
 use lib.IntN.{ℤ}
 use lib.ListN.{length, take, drop}
-use Rattle.coxeter.specs.declared.Answer.TheVariants.{Length}
+use Rattle.coxeter.specs.answers.Answer.{Length}
 use Rattle.coxeter.specs.Kinds.{kind_of, lanes}
 use Rattle.coxeter.specs.Windows.{identity, window, product, inverse}
 use Rattle.coxeter.specs.Checks.{rank_refusal, word_refusal, window_refusal, RankOf, WordOf, WindowOf}

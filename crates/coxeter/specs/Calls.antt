@@ -2,17 +2,18 @@
 -- I17). The order of the checks is that of CO2 and CO4.
 use Rattle.std.specs.Prelude.{◌≡◌, Bool, true, false, ◌&&◌, List, [], ◌∷◌, ◌++◌, ℕ, eqb, ℤ, pos, negsuc, length, drop}
 use Rattle.std.specs.Borrow.{Bor}
-use Rattle.coxeter.specs.declared.Answer.{Answer}
-use Rattle.coxeter.specs.declared.Answer.TheVariants.{Length, Refused}
-use Rattle.coxeter.specs.declared.Lanes.{Lanes}
-use Rattle.coxeter.specs.declared.Lanes.TheVariants as lane_count
-use Rattle.coxeter.specs.declared.Verdict.{Verdict}
-use Rattle.coxeter.specs.declared.Verdict.TheVariants as verdict
-use Rattle.coxeter.specs.declared.Choice.{Choice}
-use Rattle.coxeter.specs.declared.Choice.TheVariants as choices
-use Rattle.coxeter.specs.declared.Counted.{Counted}
-use Rattle.coxeter.specs.declared.Counted.TheVariants as counted
-use Rattle.coxeter.specs.Kinds.{Kind, pick, kind_of, lanes}
+use Rattle.coxeter.specs.answers.Answer.{Answer}
+use Rattle.coxeter.specs.answers.Answer.{Length, Refused}
+use Rattle.coxeter.specs.answers.Lanes.{Lanes}
+use Rattle.coxeter.specs.answers.Lanes as lane_count
+use Rattle.coxeter.specs.answers.Verdict.{Verdict}
+use Rattle.coxeter.specs.answers.Verdict as verdict
+use Rattle.coxeter.specs.answers.Choice.{Choice}
+use Rattle.coxeter.specs.answers.Choice as choices
+use Rattle.coxeter.specs.answers.Counted.{Counted}
+use Rattle.coxeter.specs.answers.Counted as counted
+use Rattle.coxeter.specs.declared.Kind.{Kind}
+use Rattle.coxeter.specs.Kinds.{pick, kind_of, lanes}
 use Rattle.coxeter.specs.Windows.{window, product, inverse}
 use Rattle.coxeter.specs.Length.{Crossings, crossings, window_length}
 use Rattle.coxeter.specs.NormalForm.{normal_form, word_normal_form}

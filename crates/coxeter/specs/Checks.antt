@@ -1,7 +1,9 @@
 -- The checks of a kind, a rank, a word, a window and an output (section C of the specification). A call that fails
 -- one is refused, which document 01 calls turned down; a refusal is the number of a check, and 0 stands for none.
 use Rattle.std.specs.Prelude.{◌≡◌, Bool, false, not, ◌||◌, List, [], ◌∷◌, ℕ, zero, suc, eqb, ltb, ℤ, nat_abs, length}
-use Rattle.coxeter.specs.Kinds.{Kind, A, B, D, pick, kind_of, lanes, least, greatest}
+use Rattle.coxeter.specs.declared.Kind.{Kind}
+use Rattle.coxeter.specs.declared.Kind.TheVariants.{A, B, D}
+use Rattle.coxeter.specs.Kinds.{pick, kind_of, lanes, least, greatest}
 use Rattle.coxeter.specs.Length.{negative, negatives}
 
 -- CO3: the number if its test holds

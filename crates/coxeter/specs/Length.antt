@@ -1,7 +1,9 @@
 -- The length of a window as three counts (section L of the specification). A plain pair is an inversion here, a
 -- pair against a mirrored lane a negative sum pair, a mirrored lane a negative entry.
 use Rattle.std.specs.Prelude.{Bool, true, false, List, [], ◌∷◌, map, ℕ, ◌+◌, ◌-◌, ◌*◌, ◌/◌, ltb, ℤ, pos, negsuc, neg_ℤ}
-use Rattle.coxeter.specs.Kinds.{Kind, A, B, D, pick}
+use Rattle.coxeter.specs.declared.Kind.{Kind}
+use Rattle.coxeter.specs.declared.Kind.TheVariants.{A, B, D}
+use Rattle.coxeter.specs.Kinds.{pick}
 
 -- L1: x stands later than y in the order 1, 2, .., m, −m, .., −2, −1; `negsuc s` is −(s + 1)
 unfoldable pub later : ℤ → ℤ → Bool

@@ -8,4 +8,6 @@ pub mod Relations
 pub mod Checks
 pub mod Parity
 pub mod NormalForm
+pub mod Refusals
+pub mod answers
 pub mod Calls

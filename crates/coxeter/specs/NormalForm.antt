@@ -1,7 +1,9 @@
 -- Blocks and normal forms (section N of the specification): first blocks, then the normal form by peeling, then
 -- what it has to be.
 use Rattle.std.specs.Prelude.{◌≡◌, true, false, List, [], ◌∷◌, ◌++◌, ℕ, zero, suc, ◌-◌, ◌*◌, ◌≤◌, eqb, leb, ltb, ℤ, pos, negsuc, nat_abs, length}
-use Rattle.coxeter.specs.Kinds.{Kind, A, B, D, pick, up}
+use Rattle.coxeter.specs.declared.Kind.{Kind}
+use Rattle.coxeter.specs.declared.Kind.TheVariants.{A, B, D}
+use Rattle.coxeter.specs.Kinds.{pick, up}
 use Rattle.coxeter.specs.Windows.{from, negate_first, window, place_from}
 use Rattle.coxeter.specs.Dictionary.{shortlex}
 use Rattle.coxeter.specs.Checks.{wrong_letter}

@@ -1,6 +1,7 @@
 -- The Coxeter relations and the congruence that they generate (section E of the specification).
 use Rattle.std.specs.Prelude.{◌≡◌, ◌⊎◌, List, [], ◌∷◌, ◌++◌, ℕ, ◌+◌, ◌≤◌, ◌<◌}
-use Rattle.coxeter.specs.Kinds.{Kind, A, B, D}
+use Rattle.coxeter.specs.declared.Kind.{Kind}
+use Rattle.coxeter.specs.declared.Kind.TheVariants.{A, B, D}
 
 -- E2, E5: a < b satisfy a b a = b a b. Document 01's neighbours, without the pair of E4.
 abbrev pub Neighbours : Kind → ℕ → ℕ → ℕ → Type 0

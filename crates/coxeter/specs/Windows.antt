@@ -1,7 +1,9 @@
 -- One step on a window, the window of a word, product and inverse (sections K and W of the specification).
 -- Positions count from 1 there and from 0 here.
 use Rattle.std.specs.Prelude.{List, [], ◌∷◌, map, ℕ, zero, suc, ◌-◌, eqb, ℤ, pos, negsuc, neg_ℤ, nat_abs, length, get_or}
-use Rattle.coxeter.specs.Kinds.{Kind, A, B, D, pick, lanes, up}
+use Rattle.coxeter.specs.declared.Kind.{Kind}
+use Rattle.coxeter.specs.declared.Kind.TheVariants.{A, B, D}
+use Rattle.coxeter.specs.Kinds.{pick, lanes, up}
 
 -- Helper of K7 to K9: f applied to what stands from position p on.
 unfoldable pub from : ℕ → (List ℤ → List ℤ) → List ℤ → List ℤ

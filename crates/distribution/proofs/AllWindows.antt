@@ -13,7 +13,8 @@ use borrow.Author.Tests.{eqb-true, eq-eqb}
 use lib.Dec.{eqb}
 use lib.IntN.{ℤ, pos, negsuc, nat_abs}
 use lib.ListN.{length}
-use Rattle.coxeter.specs.Kinds.{Kind, lanes, up}
+use Rattle.coxeter.specs.declared.Kind.{Kind}
+use Rattle.coxeter.specs.Kinds.{lanes, up}
 use Rattle.coxeter.specs.Checks.{window_refusal, WindowOf}
 use Rattle.coxeter.proofs.Levels.{Between, accepted_of_refusal}
 use Rattle.coxeter.proofs.TestLaws.{impossible}

@@ -11,7 +11,9 @@ use native.Mathlib.Nat.{le_antisymm}
 use borrow.Author.Tests.{lt-ltb, le-ltb, ltb-true, ltb-false}
 use lib.Dec.{ltb}
 use lib.ListN.{length}
-use Rattle.coxeter.specs.Kinds.{Kind, A, B, D, least, up}
+use Rattle.coxeter.specs.declared.Kind.{Kind}
+use Rattle.coxeter.specs.declared.Kind.TheVariants.{A, B, D}
+use Rattle.coxeter.specs.Kinds.{least, up}
 use Rattle.coxeter.specs.Length.{greatest_length}
 use Rattle.coxeter.specs.NormalForm.{levels, last_index, Indices, none, level}
 use Rattle.coxeter.proofs.Lengths.{block_length}

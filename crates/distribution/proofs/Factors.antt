@@ -13,7 +13,9 @@ use native.Mathlib.Nat.{zero-add, sub-zero}
 use borrow.Author.Tests.{lt-ltb, le-ltb, eqb-true, eqb-false, ltb-true, ltb-false, ne_eqb, eq-eqb}
 use lib.Dec.{eqb, ltb}
 use lib.ListN.{length, length-append}
-use Rattle.coxeter.specs.Kinds.{Kind, A, B, D, pick, lanes, up}
+use Rattle.coxeter.specs.declared.Kind.{Kind}
+use Rattle.coxeter.specs.declared.Kind.TheVariants.{A, B, D}
+use Rattle.coxeter.specs.Kinds.{pick, lanes, up}
 use Rattle.coxeter.specs.NormalForm.{levels}
 use Rattle.coxeter.specs.Length.{one}
 use Rattle.coxeter.proofs.Basics.{pick_same, up-append}

@@ -14,7 +14,7 @@ use Rattle.coxeter.specs.Length.{greatest_length}
 use Rattle.coxeter.specs.Checks.{check, ◌then◌, first_of, wrong_kind, wrong_rank, too_short}
 use Rattle.coxeter.proofs.Refusals.{refused_exactly, then_assoc, good_exactly}
 use Rattle.coxeter.proofs.FirstFailing.{check_then, rank_then}
-use Rattle.distribution.specs.declared.Table.TheVariants.{Written, Refused}
+use Rattle.distribution.specs.answers.Table.{Written, Refused}
 use Rattle.distribution.specs.Calls.{untabled, table_refusal, table_of, room_refusal, tables, delay_table}
 use Rattle.distribution.proofs.Tables.{length-distribution, length-longest, length-longest_form}
 use Rattle.distribution.proofs.Outcomes.{table_rank}

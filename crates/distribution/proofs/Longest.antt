@@ -13,7 +13,9 @@ use borrow.Author.Tests.{lt-ltb, le-ltb, ltb-true, ltb-false, not-true}
 use lib.Dec.{ltb}
 use lib.IntN.{ℤ, pos, negsuc, nat_abs}
 use lib.ListN.{length, length-map}
-use Rattle.coxeter.specs.Kinds.{Kind, A, B, D, pick, least, up}
+use Rattle.coxeter.specs.declared.Kind.{Kind}
+use Rattle.coxeter.specs.declared.Kind.TheVariants.{A, B, D}
+use Rattle.coxeter.specs.Kinds.{pick, least, up}
 use Rattle.coxeter.specs.Windows.{from, negate_first}
 use Rattle.coxeter.specs.Length.{negative, one, negatives, window_length, greatest_length}
 use Rattle.coxeter.specs.Checks.{odd}

@@ -11,7 +11,8 @@ use native.Mathlib.Nat.{zero-add}
 use native.Mathlib.Omega.{arith}
 use lib.IntN.{ℤ, pos, negsuc, neg_ℤ}
 use lib.ListN.{length, get_or, take}
-use Rattle.coxeter.specs.Kinds.{A, B, D, pick, kind_of, up}
+use Rattle.coxeter.specs.declared.Kind.TheVariants.{A, B, D}
+use Rattle.coxeter.specs.Kinds.{pick, kind_of, up}
 use Rattle.coxeter.specs.Windows.{from, negate_first}
 use Rattle.coxeter.specs.Parity.{Odd}
 use Rattle.coxeter.specs.Checks.{odd}
@@ -19,7 +20,7 @@ use Rattle.coxeter.specs.NormalForm.{down}
 use Rattle.coxeter.proofs.Basics.{length_from, length-negate_first}
 use Rattle.coxeter.proofs.Parity.{odd_exactly}
 use Rattle.coxeter.proofs.Acceptance.{rank_within}
-use Rattle.distribution.specs.declared.Table.TheVariants.{Written}
+use Rattle.distribution.specs.answers.Table.{Written}
 use Rattle.distribution.specs.Longest.{all_negative, longest}
 use Rattle.distribution.specs.Calls.{TableYields, delay_table}
 use Rattle.distribution.proofs.Longest.{falling_suc, length_falling, length-all_negative, longest_is}

@@ -12,7 +12,9 @@ use native.Mathlib.Nat.{le_refl, le_trans, lt_of_le_of_lt, le_of_eq, mul_assoc, 
 use native.Mathlib.Numerals.{add-one}
 use lib.Dec.{lit<}
 use lib.ListN.{length, length-append, length-map}
-use Rattle.coxeter.specs.Kinds.{Kind, A, B, D, lanes, least, up}
+use Rattle.coxeter.specs.declared.Kind.{Kind}
+use Rattle.coxeter.specs.declared.Kind.TheVariants.{A, B, D}
+use Rattle.coxeter.specs.Kinds.{lanes, least, up}
 use Rattle.coxeter.specs.Length.{greatest_length}
 use Rattle.coxeter.specs.NormalForm.{levels}
 use Rattle.coxeter.proofs.Basics.{length_up}

@@ -16,7 +16,7 @@ use Rattle.coxeter.specs.Calls.{front, written}
 use Rattle.coxeter.proofs.KindLaws.{one_le}
 use Rattle.coxeter.proofs.Refusals.{then_zero, check_zero}
 use Rattle.coxeter.proofs.Acceptance.{rank_within, rank_accepted}
-use Rattle.distribution.specs.declared.Table.TheVariants.{Written, Refused}
+use Rattle.distribution.specs.answers.Table.{Written, Refused}
 use Rattle.distribution.specs.Distribution.{distribution}
 use Rattle.distribution.specs.Longest.{longest}
 use Rattle.distribution.specs.Calls.{greatest_tabled, untabled, table_refusal, TableYields, table_of, room_refusal, tables, delay_table}

@@ -11,7 +11,9 @@ use native.Mathlib.Decide.{le_ind}
 use native.Mathlib.Nat.{le_refl, lt_of_le_of_lt, add-zero}
 use borrow.Author.Tests.{le-ltb, ne_eqb}
 use lib.Dec.{eqb}
-use Rattle.coxeter.specs.Kinds.{Kind, A, B, D, lanes, least, up}
+use Rattle.coxeter.specs.declared.Kind.{Kind}
+use Rattle.coxeter.specs.declared.Kind.TheVariants.{A, B, D}
+use Rattle.coxeter.specs.Kinds.{lanes, least, up}
 use Rattle.coxeter.specs.Length.{one, greatest_length}
 use Rattle.coxeter.specs.NormalForm.{levels, last_index}
 use Rattle.coxeter.proofs.Lengths.{block_length}

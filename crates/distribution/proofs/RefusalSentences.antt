@@ -11,15 +11,17 @@ use native.Mathlib.Omega.{arith}
 use borrow.Author.Tests.{ne_eqb, ltb-true, ltb-false, lt-ltb, le-ltb}
 use lib.IntN.{ℤ}
 use lib.ListN.{length}
-use Rattle.coxeter.specs.Kinds.{Kind, A, B, D, kind_of, lanes}
+use Rattle.coxeter.specs.declared.Kind.{Kind}
+use Rattle.coxeter.specs.declared.Kind.TheVariants.{A, B, D}
+use Rattle.coxeter.specs.Kinds.{kind_of, lanes}
 use Rattle.coxeter.specs.Length.{greatest_length}
 use Rattle.coxeter.specs.Checks.{check, ◌then◌, too_short, rank_refusal, RankOf}
 use Rattle.coxeter.specs.NormalForm.{normal_form}
 use Rattle.coxeter.proofs.Refusals.{then_zero, then_none, then_some, then_assoc, check_zero, rank_refusal_le, then_exactly, then_avoids}
 use Rattle.coxeter.proofs.Refusals.{check_avoids, check-number, check_exactly}
 use Rattle.coxeter.proofs.KindLaws.{A≢B, A≢D}
-use Rattle.distribution.specs.declared.Table.{Table}
-use Rattle.distribution.specs.declared.Table.TheVariants.{Written, Refused}
+use Rattle.distribution.specs.answers.Table.{Table}
+use Rattle.distribution.specs.answers.Table.{Written, Refused}
 use Rattle.distribution.specs.Distribution.{distribution}
 use Rattle.distribution.specs.Longest.{longest}
 use Rattle.distribution.specs.Calls.{greatest_tabled, untabled, table_refusal, TableYields, table_of, room_refusal, tables, delay_table}

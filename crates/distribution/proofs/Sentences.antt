@@ -24,7 +24,7 @@ use Rattle.coxeter.proofs.Order.{shortlex_cases, shortlex-total, shortlex_irrefl
 use Rattle.coxeter.proofs.Theorems.{length-normal_form}
 use Rattle.coxeter.proofs.Unchanged.{kept_front}
 use Rattle.rules.proofs.Theorems.{normal_form-least}
-use Rattle.distribution.specs.declared.Table.TheVariants.{Written}
+use Rattle.distribution.specs.answers.Table.{Written}
 use Rattle.distribution.specs.AllWindows.{In, Once}
 use Rattle.distribution.specs.Distribution.{of_length, distribution, sum, order}
 use Rattle.distribution.specs.Longest.{IsLongest, longest}

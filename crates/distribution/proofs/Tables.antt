@@ -6,7 +6,8 @@ use Prim.Native.Nat.{ℕ, zero, suc, ◌+◌, ◌≤◌, ◌<◌}
 use native.Mathlib.Nat.{add-zero, add-suc, suc-add, zero-add}
 use native.Mathlib.Omega.{arith}
 use lib.ListN.{length, get_or, length-map}
-use Rattle.coxeter.specs.Kinds.{Kind, lanes, least, up}
+use Rattle.coxeter.specs.declared.Kind.{Kind}
+use Rattle.coxeter.specs.Kinds.{lanes, least, up}
 use Rattle.coxeter.specs.Length.{window_length, greatest_length}
 use Rattle.coxeter.specs.NormalForm.{normal_form}
 use Rattle.coxeter.proofs.Basics.{length_up}

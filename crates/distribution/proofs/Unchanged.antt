@@ -10,7 +10,7 @@ use Rattle.coxeter.specs.Kinds.{kind_of}
 use Rattle.coxeter.specs.Checks.{◌then◌}
 use Rattle.coxeter.specs.NormalForm.{normal_form}
 use Rattle.coxeter.proofs.Unchanged.{kept_whole, kept_past}
-use Rattle.distribution.specs.declared.Table.TheVariants.{Written, Refused}
+use Rattle.distribution.specs.answers.Table.{Written, Refused}
 use Rattle.distribution.specs.Distribution.{distribution}
 use Rattle.distribution.specs.Longest.{longest}
 use Rattle.distribution.specs.Calls.{table_refusal, room_refusal, tables, delay_table}

@@ -3,7 +3,8 @@
 -- `windows_once` of proofs/AllWindows.antt.
 use Rattle.std.specs.Prelude.{Bool, ℕ, zero, suc, eqb, ℤ, pos, negsuc}
 use mathlib.Core.List.{List, [], ◌∷◌, ◌++◌, map, Memᴰ}
-use Rattle.coxeter.specs.Kinds.{Kind, pick, lanes, up}
+use Rattle.coxeter.specs.declared.Kind.{Kind}
+use Rattle.coxeter.specs.Kinds.{pick, lanes, up}
 use Rattle.coxeter.specs.Checks.{window_refusal}
 
 -- Helper of Y2: x is in the list.

@@ -1,11 +1,13 @@
 -- The delay table as a call, for every input (I24 and C20 of the specification).
 use Rattle.std.specs.Prelude.{◌≡◌, Bool, List, ℕ, eqb, ltb, ℤ, length}
-use Rattle.coxeter.specs.Kinds.{Kind, A, B, D, pick, kind_of}
+use Rattle.coxeter.specs.declared.Kind.{Kind}
+use Rattle.coxeter.specs.declared.Kind.TheVariants.{A, B, D}
+use Rattle.coxeter.specs.Kinds.{pick, kind_of}
 use Rattle.coxeter.specs.Checks.{check, ◌then◌, too_short, rank_refusal}
 use Rattle.coxeter.specs.NormalForm.{normal_form}
 use Rattle.coxeter.specs.Calls.{written}
-use Rattle.distribution.specs.declared.Table.{Table}
-use Rattle.distribution.specs.declared.Table.TheVariants.{Written, Refused}
+use Rattle.distribution.specs.answers.Table.{Table}
+use Rattle.distribution.specs.answers.Table.{Written, Refused}
 use Rattle.distribution.specs.Distribution.{distribution}
 use Rattle.distribution.specs.Longest.{longest}
 

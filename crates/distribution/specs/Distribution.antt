@@ -1,7 +1,9 @@
 -- How many windows have each length (Y1 to Y3 of the specification). The delay table is the field's length
 -- distribution.
 use Rattle.std.specs.Prelude.{List, [], ◌∷◌, map, ℕ, zero, suc, ◌+◌, ◌*◌, ◌/◌, ◌^◌, eqb, length}
-use Rattle.coxeter.specs.Kinds.{Kind, A, B, D, up}
+use Rattle.coxeter.specs.declared.Kind.{Kind}
+use Rattle.coxeter.specs.declared.Kind.TheVariants.{A, B, D}
+use Rattle.coxeter.specs.Kinds.{up}
 use Rattle.coxeter.specs.Length.{window_length, greatest_length}
 use Rattle.distribution.specs.AllWindows.{keep, windows}
 

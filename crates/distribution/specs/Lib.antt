@@ -3,4 +3,5 @@
 pub mod AllWindows
 pub mod Distribution
 pub mod Longest
+pub mod answers
 pub mod Calls

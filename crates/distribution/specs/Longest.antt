@@ -1,6 +1,8 @@
 -- The longest window (Y4 and Y5 of the specification). First what it is, then a definition of it.
 use Rattle.std.specs.Prelude.{◌≡◌, List, map, ℕ, ◌+◌, ◌-◌, ◌<◌, ℤ, pos, negsuc, length}
-use Rattle.coxeter.specs.Kinds.{Kind, A, B, D, pick, up}
+use Rattle.coxeter.specs.declared.Kind.{Kind}
+use Rattle.coxeter.specs.declared.Kind.TheVariants.{A, B, D}
+use Rattle.coxeter.specs.Kinds.{pick, up}
 use Rattle.coxeter.specs.Windows.{from, negate_first}
 use Rattle.coxeter.specs.Length.{window_length, greatest_length}
 use Rattle.coxeter.specs.Checks.{odd, WindowOf}

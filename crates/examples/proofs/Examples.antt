@@ -15,7 +15,9 @@ use native.Mathlib.Omega.{arith}
 use lib.Dec.{eqb, leb-zero}
 use lib.ListN.{length}
 use borrow.Author.Tests.{eqb-true, not-true, le-ltb, le-leb}
-use Rattle.coxeter.specs.Kinds.{Kind, A, B, D, kind_of, least, greatest, up}
+use Rattle.coxeter.specs.declared.Kind.{Kind}
+use Rattle.coxeter.specs.declared.Kind.TheVariants.{A, B, D}
+use Rattle.coxeter.specs.Kinds.{kind_of, least, greatest, up}
 use Rattle.coxeter.specs.Windows.{from, swap, negate_first, act, window_from, identity, window, signed, place_from, inverse}
 use Rattle.coxeter.specs.Length.{later, negative, one, later_than, inversions, negative_sum_pairs, negatives, crossings, total, window_length}
 use Rattle.coxeter.specs.Relations.{twice, forth, alone, next}

@@ -7,7 +7,7 @@ use mathlib.Core.List.{List, ◌∷◌}
 use Prim.Native.Nat.{ℕ, ◌≤◌}
 use native.Mathlib.Omega.{arith}
 use denote.Ref.{Bor}
-use Rattle.shortest_words.specs.declared.Fallback.TheVariants as fallbacks
+use Rattle.shortest_words.specs.answers.Fallback as fallbacks
 use Rattle.coxeter.specs.Kinds.{pick}
 use Rattle.coxeter.specs.Calls.{Better}
 use Rattle.shortest_words.specs.Calls.{kept_count, FellBack}

@@ -9,27 +9,28 @@ use mathlib.Core.List.{List, [], ◌∷◌}
 use Prim.Native.Nat.{ℕ}
 use lib.IntN.{ℤ, pos, nat_abs}
 use lib.ListN.{replicate}
-use Rattle.coxeter.specs.declared.Answer.{Answer}
-use Rattle.coxeter.specs.declared.Verdict.{Verdict}
-use Rattle.coxeter.specs.declared.Choice.{Choice}
-use Rattle.coxeter.specs.declared.Counted.{Counted}
-use Rattle.coxeter.specs.declared.Lanes.{Lanes}
-use Rattle.coxeter.specs.Kinds.{A, B, pick, lanes}
+use Rattle.coxeter.specs.answers.Answer.{Answer}
+use Rattle.coxeter.specs.answers.Verdict.{Verdict}
+use Rattle.coxeter.specs.answers.Choice.{Choice}
+use Rattle.coxeter.specs.answers.Counted.{Counted}
+use Rattle.coxeter.specs.answers.Lanes.{Lanes}
+use Rattle.coxeter.specs.declared.Kind.TheVariants.{A, B}
+use Rattle.coxeter.specs.Kinds.{pick, lanes}
 use Rattle.coxeter.specs.Length.{negative}
 use Rattle.coxeter.specs.Checks.{rank_refusal}
 use Rattle.coxeter.specs.Parity.{flag_after}
 use Rattle.coxeter.specs.Calls.{Outcome, window_of_word, product_of_windows, inverse_of_window, normal_form_of_window, normal_form_of_word}
 use Rattle.coxeter.specs.Calls.{product_of_words, inverse_of_word, length_of_window, length_of_word, crossings_of_window, crossings_of_word, presets_equal}
 use Rattle.rules.specs.Calls.{Transition, single}
-use Rattle.shortest_words.specs.declared.Fallback.{Fallback}
+use Rattle.shortest_words.specs.answers.Fallback.{Fallback}
 use Rattle.shortest_words.specs.Calls.{fallback_answer}
 use Rattle.shortest_words.specs.SplitCalls.{SplitOutcome, splitting}
 use Rattle.shortest_words.specs.BetweenCalls.{between_windows}
 use Rattle.traces.specs.Traces.{Traced, rewriting_to_end, number_of_steps}
 use Rattle.distribution.specs.Calls.{Tabled, table_refusal, delay_table}
 use Rattle.book_format.specs.declared.Edition.TheVariants.{First, Second}
-use Rattle.book_format.specs.declared.Opened.{Opened}
-use Rattle.book_format.specs.declared.Preset.{Preset}
+use Rattle.book_format.specs.answers.Opened.{Opened}
+use Rattle.book_format.specs.answers.Preset.{Preset}
 use Rattle.book_format.specs.Calls.{checked_book, checked_preset, reading_presets, appending}
 use Rattle.book_format.specs.Conversion.{converting}
 use Rattle.listing_text.specs.Text.{refused_line, refused_book_line, count_line, word_line}

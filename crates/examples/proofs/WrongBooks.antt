@@ -7,15 +7,16 @@ use Prim.Native.Nat.{ℕ, zero, suc, ◌+◌, ◌-◌, ◌*◌, ◌/◌, min}
 use lib.Dec.{eqb, ltb}
 use lib.IntN.{nat_abs}
 use lib.ListN.{length, get_or, take, drop, replicate}
-use Rattle.coxeter.specs.Kinds.{Kind, pick, kind_of, lanes, up}
+use Rattle.coxeter.specs.declared.Kind.{Kind}
+use Rattle.coxeter.specs.Kinds.{pick, kind_of, lanes, up}
 use Rattle.coxeter.specs.Windows.{window}
 use Rattle.coxeter.specs.Checks.{check, ◌then◌, too_short, word_refusal}
 use Rattle.coxeter.specs.NormalForm.{word_normal_form}
 use Rattle.coxeter.specs.Calls.{Outcome, answer_of, written, writes, front}
 use Rattle.book_format.specs.declared.Edition.{Edition}
 use Rattle.book_format.specs.declared.Edition.TheVariants.{First, Second}
-use Rattle.book_format.specs.declared.Opened.{Opened}
-use Rattle.book_format.specs.declared.Preset.{Preset}
+use Rattle.book_format.specs.answers.Opened.{Opened}
+use Rattle.book_format.specs.answers.Preset.{Preset}
 use Rattle.book_format.specs.Books.{two, count, trailer, offset, kind_at, rank_at, lanes_at, letter_count_at, letters_at, end_at, wrong_size, wrong_count, misplaced}
 use Rattle.book_format.specs.Books.{no_such_preset, book_rank_refusal, wrong_lane_count, book_refusal, record_refusal, preset_refusal, record_of, appended, append_refusal}
 use Rattle.book_format.specs.Books.{head_size, too_large, retired}

@@ -7,9 +7,10 @@ use Prim.Native.Nat.{ℕ, ◌+◌, ◌-◌}
 use lib.Dec.{eqb, ltb}
 use lib.IntN.{ℤ, pos, negsuc, nat_abs}
 use lib.ListN.{length}
-use Rattle.coxeter.specs.declared.Lanes.{Lanes}
-use Rattle.coxeter.specs.declared.Lanes.TheVariants.{Count}
-use Rattle.coxeter.specs.Kinds.{Kind, pick, kind_of, lanes, least}
+use Rattle.coxeter.specs.answers.Lanes.{Lanes}
+use Rattle.coxeter.specs.answers.Lanes.{Count}
+use Rattle.coxeter.specs.declared.Kind.{Kind}
+use Rattle.coxeter.specs.Kinds.{pick, kind_of, lanes, least}
 use Rattle.coxeter.specs.Length.{negatives}
 use Rattle.coxeter.specs.Checks.{check, ◌then◌, wrong_kind, too_long, wrong_letter, odd, rank_refusal}
 use Rattle.coxeter.specs.Checks.{word_refusal, window_refusal}

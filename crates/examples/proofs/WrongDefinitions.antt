@@ -16,7 +16,9 @@ use lib.Dec.{eqb, leb}
 use lib.IntN.{ℤ, pos, negsuc, neg_ℤ}
 use lib.ListN.{length, get_or, replicate, length-replicate, get_or-replicate}
 use borrow.Author.Tests.{lt-leb}
-use Rattle.coxeter.specs.Kinds.{Kind, A, B, D, pick, kind_of, lanes, up}
+use Rattle.coxeter.specs.declared.Kind.{Kind}
+use Rattle.coxeter.specs.declared.Kind.TheVariants.{A, B, D}
+use Rattle.coxeter.specs.Kinds.{pick, kind_of, lanes, up}
 use Rattle.coxeter.specs.Windows.{window, product}
 use Rattle.coxeter.specs.Length.{later, one, negative, negatives, later_than, inversions, negative_sum_pairs}
 use Rattle.coxeter.specs.Relations.{Relation}

@@ -27,8 +27,8 @@ use Rattle.shortest_words.specs.Allowed.{over, allows}
 use Rattle.shortest_words.proofs.AllowedSets.{allows_exactly}
 use Rattle.book_format.specs.declared.Edition.{Edition}
 use Rattle.book_format.specs.declared.Edition.TheVariants.{First}
-use Rattle.book_format.specs.declared.Preset.{Preset}
-use Rattle.book_format.specs.declared.Preset.TheVariants as preset
+use Rattle.book_format.specs.answers.Preset.{Preset}
+use Rattle.book_format.specs.answers.Preset as preset
 use Rattle.book_format.specs.Books.{two_at, two, count, trailer, offset, kind_at, rank_at, letter_count_at, head_size, wrong_size, wrong_count}
 use Rattle.book_format.specs.Books.{misplaced_from, misplaced, wrong_rank_in_book, book_rank_refusal, book_refusal, preset_refusal, record_of}
 use Rattle.book_format.specs.Records.{Record, record_bytes, offset_bytes, lay_out}

@@ -16,7 +16,9 @@ use lib.Dec.{eqb, ltb}
 use lib.IntN.{ℤ, pos, nat_abs}
 use lib.ListN.{length, get_or, drop, replicate, length-replicate, length-append, length-map}
 use borrow.Author.Tests.{lt-ltb}
-use Rattle.coxeter.specs.Kinds.{Kind, A, B, pick, kind_of, least}
+use Rattle.coxeter.specs.declared.Kind.{Kind}
+use Rattle.coxeter.specs.declared.Kind.TheVariants.{A, B}
+use Rattle.coxeter.specs.Kinds.{pick, kind_of, least}
 use Rattle.coxeter.specs.Windows.{window}
 use Rattle.coxeter.specs.Length.{negative, window_length, greatest_length}
 use Rattle.coxeter.specs.Relations.{Application}

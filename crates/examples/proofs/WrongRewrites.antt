@@ -5,7 +5,9 @@ use mathlib.Core.Option.{none, some}
 use Prim.Native.Nat.{ℕ, ◌-◌, ◌*◌}
 use lib.Dec.{eqb, ltb}
 use lib.ListN.{length}
-use Rattle.coxeter.specs.Kinds.{Kind, B, pick, kind_of}
+use Rattle.coxeter.specs.declared.Kind.{Kind}
+use Rattle.coxeter.specs.declared.Kind.TheVariants.{B}
+use Rattle.coxeter.specs.Kinds.{pick, kind_of}
 use Rattle.coxeter.specs.Checks.{check, ◌then◌, too_short, rank_refusal, word_refusal}
 use Rattle.coxeter.specs.NormalForm.{rise}
 use Rattle.coxeter.specs.Calls.{front}

@@ -15,32 +15,32 @@ use native.Mathlib.Omega.{arith}
 use lib.IntN.{ℤ, pos}
 use lib.ListN.{length}
 use borrow.Author.Tests.{lt-ltb, le-ltb}
-use Rattle.coxeter.specs.declared.Answer.{Answer}
-use Rattle.coxeter.specs.declared.Answer.TheVariants as answers
-use Rattle.coxeter.specs.declared.Verdict.{Verdict}
-use Rattle.coxeter.specs.declared.Verdict.TheVariants as verdicts
-use Rattle.coxeter.specs.declared.Choice.{Choice}
-use Rattle.coxeter.specs.declared.Choice.TheVariants as choices
-use Rattle.coxeter.specs.declared.Counted.{Counted}
-use Rattle.coxeter.specs.declared.Counted.TheVariants as counts
-use Rattle.coxeter.specs.declared.Lanes.{Lanes}
-use Rattle.coxeter.specs.declared.Lanes.TheVariants as lane_counts
+use Rattle.coxeter.specs.answers.Answer.{Answer}
+use Rattle.coxeter.specs.answers.Answer as answers
+use Rattle.coxeter.specs.answers.Verdict.{Verdict}
+use Rattle.coxeter.specs.answers.Verdict as verdicts
+use Rattle.coxeter.specs.answers.Choice.{Choice}
+use Rattle.coxeter.specs.answers.Choice as choices
+use Rattle.coxeter.specs.answers.Counted.{Counted}
+use Rattle.coxeter.specs.answers.Counted as counts
+use Rattle.coxeter.specs.answers.Lanes.{Lanes}
+use Rattle.coxeter.specs.answers.Lanes as lane_counts
 use Rattle.rules.specs.declared.Rewrite.{Rewrite}
 use Rattle.rules.specs.declared.Rewrite.TheVariants as rewrites
-use Rattle.shortest_words.specs.declared.Fallback.{Fallback}
-use Rattle.shortest_words.specs.declared.Fallback.TheVariants as fallbacks
-use Rattle.shortest_words.specs.declared.Split.{Split}
-use Rattle.shortest_words.specs.declared.Split.TheVariants as splits
-use Rattle.traces.specs.declared.ToEnd.{ToEnd}
-use Rattle.traces.specs.declared.ToEnd.TheVariants as ends
-use Rattle.distribution.specs.declared.Table.{Table}
-use Rattle.distribution.specs.declared.Table.TheVariants as tables
+use Rattle.shortest_words.specs.answers.Fallback.{Fallback}
+use Rattle.shortest_words.specs.answers.Fallback as fallbacks
+use Rattle.shortest_words.specs.answers.Split.{Split}
+use Rattle.shortest_words.specs.answers.Split as splits
+use Rattle.traces.specs.answers.ToEnd.{ToEnd}
+use Rattle.traces.specs.answers.ToEnd as ends
+use Rattle.distribution.specs.answers.Table.{Table}
+use Rattle.distribution.specs.answers.Table as tables
 use Rattle.book_format.specs.declared.Edition.{Edition}
 use Rattle.book_format.specs.declared.Edition.TheVariants.{First}
-use Rattle.book_format.specs.declared.Opened.{Opened}
-use Rattle.book_format.specs.declared.Opened.TheVariants as books
-use Rattle.book_format.specs.declared.Preset.{Preset}
-use Rattle.book_format.specs.declared.Preset.TheVariants as presets
+use Rattle.book_format.specs.answers.Opened.{Opened}
+use Rattle.book_format.specs.answers.Opened as books
+use Rattle.book_format.specs.answers.Preset.{Preset}
+use Rattle.book_format.specs.answers.Preset as presets
 use Rattle.listing_text.specs.declared.Piece.{Piece}
 use Rattle.coxeter.specs.Kinds.{kind_of, up}
 use Rattle.coxeter.specs.Windows.{from, swap, negate_first, swap_negate, act, window_from, identity, window, at, product, signed, place_from, inverse}

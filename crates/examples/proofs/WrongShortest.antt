@@ -11,7 +11,7 @@ use Rattle.coxeter.specs.Kinds.{kind_of, lanes}
 use Rattle.coxeter.specs.Windows.{identity, window}
 use Rattle.coxeter.specs.Checks.{check, ◌then◌, too_short, rank_refusal, word_refusal, window_refusal}
 use Rattle.coxeter.specs.Calls.{Outcome, writes}
-use Rattle.shortest_words.specs.declared.Fallback.{Fallback}
+use Rattle.shortest_words.specs.answers.Fallback.{Fallback}
 use Rattle.shortest_words.specs.Fallback.{some_subword, is_fallback}
 use Rattle.shortest_words.specs.Calls.{fallback_of, simpler_length}
 use Rattle.shortest_words.specs.Allowed.{allows, wrong_set, set_refusal}

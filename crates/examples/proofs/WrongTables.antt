@@ -6,7 +6,8 @@ use Prim.Native.Nat.{ℕ, suc, ◌+◌, ◌-◌}
 use lib.Dec.{ltb}
 use lib.IntN.{ℤ}
 use lib.ListN.{length, take, replicate}
-use Rattle.coxeter.specs.Kinds.{Kind, kind_of, lanes, up}
+use Rattle.coxeter.specs.declared.Kind.{Kind}
+use Rattle.coxeter.specs.Kinds.{kind_of, lanes, up}
 use Rattle.coxeter.specs.Windows.{identity}
 use Rattle.coxeter.specs.Length.{greatest_length}
 use Rattle.coxeter.specs.Checks.{check, ◌then◌, too_short, rank_refusal}

@@ -7,11 +7,13 @@ use Prim.Native.Nat.{ℕ, zero, suc, ◌+◌, ◌-◌, ◌*◌}
 use lib.Dec.{eqb, leb, ltb}
 use lib.IntN.{ℤ, pos, negsuc, neg_ℤ, nat_abs}
 use lib.ListN.{length, take}
-use Rattle.coxeter.specs.declared.Answer.{Answer}
-use Rattle.coxeter.specs.declared.Verdict.{Verdict}
-use Rattle.coxeter.specs.declared.Choice.{Choice}
-use Rattle.coxeter.specs.declared.Counted.{Counted}
-use Rattle.coxeter.specs.Kinds.{Kind, A, B, D, pick, kind_of, lanes}
+use Rattle.coxeter.specs.answers.Answer.{Answer}
+use Rattle.coxeter.specs.answers.Verdict.{Verdict}
+use Rattle.coxeter.specs.answers.Choice.{Choice}
+use Rattle.coxeter.specs.answers.Counted.{Counted}
+use Rattle.coxeter.specs.declared.Kind.{Kind}
+use Rattle.coxeter.specs.declared.Kind.TheVariants.{A, B, D}
+use Rattle.coxeter.specs.Kinds.{pick, kind_of, lanes}
 use Rattle.coxeter.specs.Windows.{identity, window, product, signed, place_from, inverse}
 use Rattle.coxeter.specs.Length.{Crossings, one, negatives, inversions, negative_sum_pairs, crossings, window_length}
 use Rattle.coxeter.specs.Dictionary.{shortlex}

@@ -1,7 +1,9 @@
 -- The examples that are proved (J1 to J9 of the specification): what each sort of entry says, and the one table
 -- (G4). Its proof is `proved` of proofs/Examples.antt.
 use Rattle.std.specs.Prelude.{◌≡◌, List, [], ◌∷◌, ℕ, ◌≤◌, ℤ, pos, neg_ℤ, length}
-use Rattle.coxeter.specs.Kinds.{Kind, A, B, D, least, greatest}
+use Rattle.coxeter.specs.declared.Kind.{Kind}
+use Rattle.coxeter.specs.declared.Kind.TheVariants.{A, B, D}
+use Rattle.coxeter.specs.Kinds.{least, greatest}
 use Rattle.coxeter.specs.Windows.{window, inverse}
 use Rattle.coxeter.specs.Length.{window_length}
 use Rattle.coxeter.specs.Checks.{window_refusal}

@@ -8,7 +8,7 @@ use native.Mathlib.Numerals.{add-one}
 use native.Mathlib.Omega.{arith}
 use lib.ListN.{length, take, drop, length-append}
 use Rattle.book_format.specs.declared.Edition.{Edition}
-use Rattle.book_format.specs.declared.Opened.TheVariants as opened
+use Rattle.book_format.specs.answers.Opened as opened
 use Rattle.book_format.specs.Calls.{checked_book}
 use Rattle.listing_text.specs.Text.{refused_book_line, count_line, line_of}
 use Rattle.listing_text.specs.Calls.{line_count_by, line_count, first_line, line, lines, fitting, next_piece, pieces, reached}

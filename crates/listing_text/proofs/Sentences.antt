@@ -10,13 +10,14 @@ use native.Mathlib.Nat.{add-zero, zero-add, add-suc, suc-add}
 use native.Mathlib.Numerals.{add-one}
 use native.Mathlib.Omega.{arith}
 use lib.ListN.{length, take, drop}
-use Rattle.coxeter.specs.declared.Answer.TheVariants.{Length}
-use Rattle.coxeter.specs.Kinds.{A, kind_of}
+use Rattle.coxeter.specs.answers.Answer.{Length}
+use Rattle.coxeter.specs.declared.Kind.TheVariants.{A}
+use Rattle.coxeter.specs.Kinds.{kind_of}
 use Rattle.coxeter.specs.Checks.{WordOf}
 use Rattle.coxeter.specs.Calls.{Yields}
 use Rattle.book_format.specs.declared.Edition.{Edition}
-use Rattle.book_format.specs.declared.Preset.{Preset}
-use Rattle.book_format.specs.declared.Preset.TheVariants as preset
+use Rattle.book_format.specs.answers.Preset.{Preset}
+use Rattle.book_format.specs.answers.Preset as preset
 use Rattle.book_format.specs.Books.{count, offset, kind_at, rank_at, lanes_at, letters_at, book_refusal}
 use Rattle.book_format.specs.Calls.{checked_preset, letters_of, appending}
 use Rattle.book_format.specs.Conversion.{other, converting}

@@ -4,8 +4,8 @@ use Rattle.std.specs.Prelude.{List, [], ◌∷◌, ◌++◌, ℕ, zero, suc, ◌
 use Rattle.coxeter.specs.Kinds.{pick}
 use Rattle.coxeter.specs.Calls.{front}
 use Rattle.book_format.specs.declared.Edition.{Edition}
-use Rattle.book_format.specs.declared.Opened.{Opened}
-use Rattle.book_format.specs.declared.Opened.TheVariants as opened
+use Rattle.book_format.specs.answers.Opened.{Opened}
+use Rattle.book_format.specs.answers.Opened as opened
 use Rattle.book_format.specs.Calls.{checked_book}
 use Rattle.listing_text.specs.declared.Piece.{Piece}
 use Rattle.listing_text.specs.Text.{refused_book_line, count_line, line_of}

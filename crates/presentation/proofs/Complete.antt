@@ -2,7 +2,8 @@
 -- files before.
 -- Assumes nothing.
 use Prim.Native.Nat.{ℕ, ◌≤◌}
-use Rattle.coxeter.specs.Kinds.{Kind, least}
+use Rattle.coxeter.specs.declared.Kind.{Kind}
+use Rattle.coxeter.specs.Kinds.{least}
 use Rattle.rules.specs.Rules.{rules}
 use Rattle.presentation.specs.Presentations.{CompletePresentation}
 use Rattle.presentation.proofs.Ending.{descending_bounded, descending_terminating}

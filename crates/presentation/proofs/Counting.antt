@@ -12,7 +12,9 @@ use native.Mathlib.Omega.{arith}
 use lib.Dec.{eqb}
 use lib.ListN.{length, length-append}
 use borrow.Author.Tests.{eq-eqb, ne_eqb}
-use Rattle.coxeter.specs.Kinds.{Kind, A, B, D, pick, least, up}
+use Rattle.coxeter.specs.declared.Kind.{Kind}
+use Rattle.coxeter.specs.declared.Kind.TheVariants.{A, B, D}
+use Rattle.coxeter.specs.Kinds.{pick, least, up}
 use Rattle.coxeter.specs.NormalForm.{rise}
 use Rattle.rules.specs.Rules.{Rule, rule, concat_map, commuted, carried, turned, family1, family2, family3, family4, families5to7, rules}
 use Rattle.presentation.specs.Presentations.{rule_count}

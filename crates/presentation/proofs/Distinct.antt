@@ -10,7 +10,9 @@ use mathlib.Core.List.{List, [], ◌∷◌, ◌++◌}
 use Prim.Native.Nat.{ℕ, suc, ◌+◌, ◌-◌, ◌*◌, ◌≤◌, ◌<◌}
 use native.Mathlib.Omega.{arith}
 use lib.Dec.{eqb}
-use Rattle.coxeter.specs.Kinds.{Kind, A, B, D, pick, least}
+use Rattle.coxeter.specs.declared.Kind.{Kind}
+use Rattle.coxeter.specs.declared.Kind.TheVariants.{A, B, D}
+use Rattle.coxeter.specs.Kinds.{pick, least}
 use Rattle.coxeter.specs.NormalForm.{rise}
 use Rattle.rules.specs.Rules.{Rule, rule, concat_map, commuted, carried, turned, fits, Irreducible}
 use Rattle.rules.specs.Rules.{family1, family2, family3, family4, families5to7, rules}

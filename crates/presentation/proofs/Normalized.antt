@@ -12,7 +12,8 @@ use native.Mathlib.Omega.{arith}
 use lib.Dec.{ltb}
 use lib.ListN.{length, get_or, drop, length-append, get_or-append}
 use borrow.Author.Tests.{ltb-true, ltb-false}
-use Rattle.coxeter.specs.Kinds.{Kind, least}
+use Rattle.coxeter.specs.declared.Kind.{Kind}
+use Rattle.coxeter.specs.Kinds.{least}
 use Rattle.coxeter.proofs.TestLaws.{not_true_false}
 use Rattle.rules.specs.Rules.{Rule, rules, fits, Irreducible}
 use Rattle.rules.proofs.Fits.{begins-append, begins_split}

@@ -13,7 +13,8 @@ use Prim.Native.Nat.{ℕ, ◌+◌, ◌≤◌}
 use native.Mathlib.Nat.{le_antisymm}
 use native.Mathlib.Omega.{arith}
 use lib.ListN.{length, length-append, length-map, drop_of_length-le}
-use Rattle.coxeter.specs.Kinds.{Kind, least}
+use Rattle.coxeter.specs.declared.Kind.{Kind}
+use Rattle.coxeter.specs.Kinds.{least}
 use Rattle.coxeter.specs.Windows.{window}
 use Rattle.coxeter.specs.Checks.{wrong_letter}
 use Rattle.coxeter.specs.Dictionary.{shortlex}

@@ -12,7 +12,8 @@ use Prim.Native.Nat.{ℕ, ◌≤◌}
 use native.Mathlib.Omega.{arith}
 use lib.IntN.{ℤ}
 use lib.ListN.{length-map}
-use Rattle.coxeter.specs.Kinds.{Kind, least}
+use Rattle.coxeter.specs.declared.Kind.{Kind}
+use Rattle.coxeter.specs.Kinds.{least}
 use Rattle.coxeter.specs.Windows.{window}
 use Rattle.coxeter.specs.Checks.{wrong_letter, WindowOf}
 use Rattle.coxeter.specs.NormalForm.{blocks, Indices, normal_form}

@@ -1,2 +1,3 @@
 -- What code that checks or makes entries shares.
+pub mod Backwards
 pub mod Bytes

@@ -15,7 +15,8 @@ use native.Mathlib.Omega.{arith}
 use lib.Dec.{eqb}
 use lib.ListN.{length}
 use borrow.Author.Tests.{le-ltb, le-leb, lt-leb}
-use Rattle.coxeter.specs.Kinds.{Kind, pick, kind_of, least}
+use Rattle.coxeter.specs.declared.Kind.{Kind}
+use Rattle.coxeter.specs.Kinds.{pick, kind_of, least}
 use Rattle.coxeter.specs.Checks.{check, too_long, wrong_letter, word_refusal}
 use Rattle.rules.specs.declared.Rewrite.TheVariants.{Used}
 use Rattle.rules.specs.Rules.{Rule, rules, first_fitting, rewritten}

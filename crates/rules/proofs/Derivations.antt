@@ -9,7 +9,9 @@ use mathlib.Core.List.Memᴰ
 use mathlib.Core.List.{List, [], ◌∷◌, ◌++◌, append_assoc, append-nil, cons-ne-nil}
 use Prim.Native.Nat.{ℕ, ◌+◌, ◌-◌, ◌*◌, ◌≤◌, ◌<◌}
 use native.Mathlib.Omega.{arith}
-use Rattle.coxeter.specs.Kinds.{Kind, A, B, D, least}
+use Rattle.coxeter.specs.declared.Kind.{Kind}
+use Rattle.coxeter.specs.declared.Kind.TheVariants.{A, B, D}
+use Rattle.coxeter.specs.Kinds.{least}
 use Rattle.coxeter.specs.NormalForm.{block}
 use Rattle.coxeter.specs.Relations.{Neighbours, Braid, threefold, fourfold, commute, Relation, twice, braid, Congruent, alone}
 use Rattle.coxeter.proofs.Congruence.{congruent_trans, congruent_sym, congruent_context, congruent_one, congruent_map}

@@ -8,7 +8,7 @@ use Prim.Native.Nat.{ℕ, suc, ◌+◌, ◌-◌, ◌*◌, ◌≤◌, ◌<◌}
 use native.Mathlib.Nat.{lt_of_not-le}
 use native.Mathlib.Decide.{dec_le}
 use native.Mathlib.Omega.{arith}
-use Rattle.coxeter.specs.Kinds.{Kind}
+use Rattle.coxeter.specs.declared.Kind.{Kind}
 use Rattle.coxeter.specs.NormalForm.{block, levels, last_index}
 use Rattle.coxeter.proofs.KindLaws.{levels_le, le_levels}
 use Rattle.coxeter.proofs.LetterRuns.{Corner, corner_le, span, span_cut, span_snoc, slide, slide_snoc, IsBlock, block_up, block_turn, slide-one}

@@ -16,7 +16,8 @@ use lib.Dec.{eqb}
 use lib.ListN.{length, take, drop, length-append, take-append-drop, drop_of_length-le}
 use lib.Seq.{length-take-le, take-append_seam, drop-append_seam, drop-append-add}
 use borrow.Author.Tests.{eqb-true, eq-eqb}
-use Rattle.coxeter.specs.Kinds.{Kind, least, pick}
+use Rattle.coxeter.specs.declared.Kind.{Kind}
+use Rattle.coxeter.specs.Kinds.{least, pick}
 use Rattle.rules.specs.Rules.{Rule, rules, begins, fits, first_fitting, rewritten}
 use Rattle.rules.proofs.Rewriting.{Rewrites, within}
 use Rattle.rules.proofs.RuleList.{rule_of_list, list_of_rule}

@@ -8,7 +8,9 @@ use Prim.Native.Nat.{ℕ, ◌+◌, ◌-◌, ◌*◌, ◌≤◌, ◌<◌}
 use native.Mathlib.Decide.{ℕ_discrete}
 use native.Mathlib.Omega.{arith}
 use borrow.Author.Tests.{eq-eqb, ne_eqb, lt-ltb, le-ltb}
-use Rattle.coxeter.specs.Kinds.{Kind, A, B, D, least}
+use Rattle.coxeter.specs.declared.Kind.{Kind}
+use Rattle.coxeter.specs.declared.Kind.TheVariants.{A, B, D}
+use Rattle.coxeter.specs.Kinds.{least}
 use Rattle.coxeter.specs.NormalForm.{block}
 use Rattle.rules.specs.Rules.{rule, commuted, carried, turned}
 use Rattle.rules.proofs.Families.{IsD}

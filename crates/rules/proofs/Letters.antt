@@ -13,7 +13,9 @@ use native.Mathlib.Decide.{dec_le, ℕ_discrete}
 use native.Mathlib.Numerals.{add-one, add-two}
 use native.Mathlib.Omega.{arith}
 use borrow.Author.Tests.{le-leb, le-ltb}
-use Rattle.coxeter.specs.Kinds.{Kind, A, B, D, up, least}
+use Rattle.coxeter.specs.declared.Kind.{Kind}
+use Rattle.coxeter.specs.declared.Kind.TheVariants.{A, B, D}
+use Rattle.coxeter.specs.Kinds.{up, least}
 use Rattle.coxeter.specs.NormalForm.{down, rise, block, levels}
 use Rattle.coxeter.specs.Relations.{Neighbours, FourfoldPair}
 use Rattle.coxeter.proofs.KindLaws.{levels_le}

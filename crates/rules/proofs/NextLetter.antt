@@ -7,7 +7,9 @@ use mathlib.Core.Logic.{◌⊎◌, inl, inr, ⊎_elim}
 use Prim.Native.Nat.{ℕ, suc, ◌+◌, ◌-◌, ◌*◌, ◌≤◌, ◌<◌}
 use native.Mathlib.Decide.{dec_le, ℕ_discrete}
 use native.Mathlib.Omega.{arith}
-use Rattle.coxeter.specs.Kinds.{Kind, A, B, D, least}
+use Rattle.coxeter.specs.declared.Kind.{Kind}
+use Rattle.coxeter.specs.declared.Kind.TheVariants.{A, B, D}
+use Rattle.coxeter.specs.Kinds.{least}
 use Rattle.coxeter.specs.NormalForm.{levels, last_index}
 use Rattle.coxeter.proofs.KindLaws.{le_levels}
 use Rattle.coxeter.proofs.LetterRuns.{Corner}

@@ -2,7 +2,7 @@
 -- Assumes nothing.
 use mathlib.Core.List.{List, ◌++◌}
 use Prim.Native.Nat.{ℕ}
-use Rattle.coxeter.specs.Kinds.{Kind}
+use Rattle.coxeter.specs.declared.Kind.{Kind}
 use Rattle.rules.proofs.Families.{RuleOf}
 
 pub data Rewrites (k : Kind) (n : ℕ) : List ℕ → List ℕ → Type 0 where

@@ -14,7 +14,9 @@ use native.Mathlib.Decide.{ℕ_discrete}
 use native.Mathlib.Omega.{arith}
 use lib.Dec.{eqb}
 use borrow.Author.Tests.{eq-eqb, ne_eqb}
-use Rattle.coxeter.specs.Kinds.{Kind, A, B, D, pick, least}
+use Rattle.coxeter.specs.declared.Kind.{Kind}
+use Rattle.coxeter.specs.declared.Kind.TheVariants.{A, B, D}
+use Rattle.coxeter.specs.Kinds.{pick, least}
 use Rattle.coxeter.specs.NormalForm.{rise}
 use Rattle.rules.specs.Rules.{Rule, rule, concat_map, family1, commuted, family2, carried, family3, turned, family4, families5to7, rules}
 use Rattle.rules.proofs.Families.{Commutes, Carries, Turns, IsD, RuleOf}

@@ -16,7 +16,9 @@ use native.Mathlib.Omega.{arith}
 use lib.Dec.{eqb, ltb}
 use lib.ListN.{length, take}
 use borrow.Author.Tests.{eq-eqb, ne_eqb, lt-ltb, le-ltb}
-use Rattle.coxeter.specs.Kinds.{Kind, A, B, D, pick, least}
+use Rattle.coxeter.specs.declared.Kind.{Kind}
+use Rattle.coxeter.specs.declared.Kind.TheVariants.{A, B, D}
+use Rattle.coxeter.specs.Kinds.{pick, least}
 use Rattle.coxeter.specs.NormalForm.{block, levels, last_index}
 use Rattle.coxeter.proofs.KindLaws.{levels_le, le_levels}
 use Rattle.coxeter.proofs.LetterRuns.{IsBlock}

@@ -15,7 +15,9 @@ use native.Mathlib.Omega.{arith}
 use lib.Dec.{eqb}
 use lib.ListN.{drop}
 use borrow.Author.Tests.{eq-eqb, ne_eqb}
-use Rattle.coxeter.specs.Kinds.{Kind, A, B, D, pick, least}
+use Rattle.coxeter.specs.declared.Kind.{Kind}
+use Rattle.coxeter.specs.declared.Kind.TheVariants.{A, B, D}
+use Rattle.coxeter.specs.Kinds.{pick, least}
 use Rattle.coxeter.specs.Checks.{wrong_letter}
 use Rattle.coxeter.specs.NormalForm.{block, levels, last_index}
 use Rattle.rules.specs.Rules.{Rule, rules, fits, first_fitting}

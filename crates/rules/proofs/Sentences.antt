@@ -13,8 +13,8 @@ use Prim.Native.Nat.{ℕ, ◌≤◌, ◌<◌}
 use native.Mathlib.Omega.{arith}
 use lib.ListN.{length, drop}
 use borrow.Author.Tests.{le-leb, leb-true}
-use Rattle.coxeter.specs.declared.Answer.{Answer}
-use Rattle.coxeter.specs.declared.Answer.TheVariants as answer
+use Rattle.coxeter.specs.answers.Answer.{Answer}
+use Rattle.coxeter.specs.answers.Answer as answer
 use Rattle.coxeter.specs.Kinds.{kind_of}
 use Rattle.coxeter.specs.Windows.{window}
 use Rattle.coxeter.specs.Checks.{wrong_letter}

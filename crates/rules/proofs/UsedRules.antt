@@ -14,7 +14,8 @@ use native.Mathlib.Decide.{dec_le}
 use native.Mathlib.Omega.{arith}
 use lib.ListN.{length}
 use borrow.Author.Tests.{lt-leb, leb-false}
-use Rattle.coxeter.specs.Kinds.{Kind, kind_of}
+use Rattle.coxeter.specs.declared.Kind.{Kind}
+use Rattle.coxeter.specs.Kinds.{kind_of}
 use Rattle.coxeter.proofs.TestLaws.{impossible}
 use Rattle.rules.specs.Rules.{Rule, rules, fits, first_fitting, rewritten, Irreducible}
 use Rattle.rules.specs.Calls.{past_end, Interface, Transition, changed, rewrite_by, rewrite_at}

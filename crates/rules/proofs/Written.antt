@@ -12,7 +12,7 @@ use Prim.Native.Nat.{ℕ}
 use native.Mathlib.Omega.{arith}
 use lib.IntN.{ℤ}
 use lib.ListN.{length, take, drop}
-use Rattle.coxeter.specs.declared.Answer.TheVariants.{Length}
+use Rattle.coxeter.specs.answers.Answer.{Length}
 use Rattle.coxeter.specs.Kinds.{kind_of}
 use Rattle.coxeter.specs.Windows.{window_from, window, product, inverse}
 use Rattle.coxeter.specs.Dictionary.{shortlex}

@@ -22,8 +22,8 @@ use Rattle.coxeter.proofs.Refusals.{then_zero, then_none, then_some, then_assoc,
 use Rattle.coxeter.proofs.Refusals.{then_exactly, then_avoids, check_avoids, check-number, check_exactly}
 use Rattle.coxeter.proofs.Acceptance.{rank_within}
 use Rattle.coxeter.proofs.Theorems.{window_passes}
-use Rattle.shortest_words.specs.declared.Split.{Split}
-use Rattle.shortest_words.specs.declared.Split.TheVariants.{Words, Refused}
+use Rattle.shortest_words.specs.answers.Split.{Split}
+use Rattle.shortest_words.specs.answers.Split.{Words, Refused}
 use Rattle.shortest_words.specs.Allowed.{Over, allows, wrong_set, set_refusal}
 use Rattle.shortest_words.specs.Split.{IsSplit, first_word, second_word}
 use Rattle.shortest_words.specs.SplitCalls.{split_of, split_outcome, splitting, SplitYields}

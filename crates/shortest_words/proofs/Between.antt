@@ -9,7 +9,8 @@ use mathlib.Core.Logic.{◌↔◌}
 use mathlib.Core.List.{List, [], ◌++◌}
 use Prim.Native.Nat.{ℕ, ◌≤◌}
 use lib.IntN.{ℤ}
-use Rattle.coxeter.specs.Kinds.{Kind, least, lanes}
+use Rattle.coxeter.specs.declared.Kind.{Kind}
+use Rattle.coxeter.specs.Kinds.{least, lanes}
 use Rattle.coxeter.specs.Windows.{window_from, window, product, inverse}
 use Rattle.coxeter.specs.NormalForm.{normal_form, word_normal_form, IsNormalForm}
 use Rattle.coxeter.proofs.Levels.{Accepted, window_accepted}

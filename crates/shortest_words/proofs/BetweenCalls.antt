@@ -15,8 +15,9 @@ use lib.ListN.{length, take, drop}
 use lib.Seq.{take_at}
 use lib.Pow.{pow_pos}
 use borrow.Author.Tests.{le-ltb, lt-leb}
-use Rattle.coxeter.specs.declared.Answer.TheVariants.{Length, Refused}
-use Rattle.coxeter.specs.Kinds.{Kind, kind_of, least}
+use Rattle.coxeter.specs.answers.Answer.{Length, Refused}
+use Rattle.coxeter.specs.declared.Kind.{Kind}
+use Rattle.coxeter.specs.Kinds.{kind_of, least}
 use Rattle.coxeter.specs.Windows.{window_from, product, inverse}
 use Rattle.coxeter.specs.Checks.{check, too_short, rank_refusal, wrong_letter, RankOf, WindowOf}
 use Rattle.coxeter.specs.NormalForm.{word_normal_form}

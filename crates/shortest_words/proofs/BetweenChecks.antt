@@ -12,7 +12,7 @@ use native.Mathlib.Omega.{arith}
 use lib.IntN.{ℤ}
 use borrow.Author.Tests.{ne_eqb}
 use lib.ListN.{length, drop, take-append-drop}
-use Rattle.coxeter.specs.declared.Answer.TheVariants.{Length, Refused}
+use Rattle.coxeter.specs.answers.Answer.{Length, Refused}
 use Rattle.coxeter.specs.Kinds.{kind_of}
 use Rattle.coxeter.specs.Checks.{check, ◌then◌, too_short, rank_refusal, window_refusal, WindowOf}
 use Rattle.coxeter.specs.Calls.{answer_of, written, writes}

@@ -10,7 +10,8 @@ use mathlib.Core.List.{List, [], ◌∷◌, ◌++◌, cons-ne-nil}
 use Prim.Native.Nat.{ℕ, ◌+◌, ◌≤◌}
 use native.Mathlib.Omega.{arith}
 use lib.ListN.{length, length-append}
-use Rattle.coxeter.specs.Kinds.{Kind, least}
+use Rattle.coxeter.specs.declared.Kind.{Kind}
+use Rattle.coxeter.specs.Kinds.{least}
 use Rattle.coxeter.specs.Relations.{Braid, threefold, fourfold, commute, Relation, twice, braid, Application, forth, back, Congruent, alone, next}
 use Rattle.coxeter.proofs.Relations.{neighbours_lt, fourfold_pair_lt}
 use Rattle.coxeter.proofs.Congruence.{congruent_trans, congruent_sym, congruent_context, congruent_one}

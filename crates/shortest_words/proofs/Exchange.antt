@@ -12,7 +12,8 @@ use Prim.Native.Nat.{ℕ, zero, suc, ◌≤◌, ◌<◌}
 use native.Mathlib.Omega.{arith}
 use lib.IntN.{ℤ}
 use lib.ListN.{length, length-append}
-use Rattle.coxeter.specs.Kinds.{Kind, least, lanes}
+use Rattle.coxeter.specs.declared.Kind.{Kind}
+use Rattle.coxeter.specs.Kinds.{least, lanes}
 use Rattle.coxeter.specs.Windows.{act, window_from, identity, window, product}
 use Rattle.coxeter.specs.Length.{window_length}
 use Rattle.coxeter.specs.Checks.{wrong_letter}

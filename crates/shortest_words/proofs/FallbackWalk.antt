@@ -14,7 +14,8 @@ use lib.Dec.{eqb}
 use lib.IntN.{ℤ}
 use lib.ListN.{length, get_or, take}
 use lib.Seq.{take-suc, take-length}
-use Rattle.coxeter.specs.Kinds.{Kind, pick, least, lanes}
+use Rattle.coxeter.specs.declared.Kind.{Kind}
+use Rattle.coxeter.specs.Kinds.{pick, least, lanes}
 use Rattle.coxeter.specs.Windows.{act, window_from, identity, window}
 use Rattle.coxeter.specs.Length.{window_length}
 use Rattle.coxeter.specs.Checks.{wrong_letter}

@@ -9,7 +9,9 @@ use Prim.Native.Nat.{ℕ, zero, suc, ◌+◌, ◌≤◌, ◌<◌}
 use native.Mathlib.Omega.{arith}
 use lib.IntN.{ℤ, pos}
 use lib.ListN.{get_or}
-use Rattle.coxeter.specs.Kinds.{Kind, A, B, D, least, lanes}
+use Rattle.coxeter.specs.declared.Kind.{Kind}
+use Rattle.coxeter.specs.declared.Kind.TheVariants.{A, B, D}
+use Rattle.coxeter.specs.Kinds.{least, lanes}
 use Rattle.coxeter.specs.Windows.{from, swap, negate_first, swap_negate, act}
 use Rattle.coxeter.specs.Length.{later}
 use Rattle.coxeter.proofs.Levels.{Accepted, act_accepted}

@@ -20,8 +20,8 @@ use Rattle.coxeter.proofs.Refusals.{refused_exactly, then_assoc, good_exactly}
 use Rattle.coxeter.proofs.TestLaws.{impossible}
 use Rattle.coxeter.proofs.FirstFailing.{check_then, rank_then, word_then, window_then}
 use Rattle.coxeter.proofs.FirstRefusals.{word_alone}
-use Rattle.shortest_words.specs.declared.Fallback.TheVariants as fallback
-use Rattle.shortest_words.specs.declared.Split.TheVariants as split
+use Rattle.shortest_words.specs.answers.Fallback as fallback
+use Rattle.shortest_words.specs.answers.Split as split
 use Rattle.shortest_words.specs.Allowed.{allows, wrong_set, set_refusal}
 use Rattle.shortest_words.specs.Fallback.{is_fallback}
 use Rattle.shortest_words.specs.Calls.{fallback_of, fallback_answer}

@@ -13,15 +13,17 @@ use borrow.Author.Tests.{le-ltb}
 use lib.IntN.{ℤ}
 use lib.ListN.{length, get_or, take, drop}
 use lib.Seq.{take-append_seam, drop-append_seam}
-use Rattle.coxeter.specs.Kinds.{Kind, B, kind_of, up}
+use Rattle.coxeter.specs.declared.Kind.{Kind}
+use Rattle.coxeter.specs.declared.Kind.TheVariants.{B}
+use Rattle.coxeter.specs.Kinds.{kind_of, up}
 use Rattle.coxeter.specs.Windows.{from, swap, negate_first, act, window_from, identity, window, signed, place_from}
 use Rattle.coxeter.specs.Length.{later, negative, one, later_than, inversions, negative_sum_pairs, negatives, crossings, total, window_length}
 use Rattle.coxeter.specs.Checks.{wrong_kind, wrong_rank, too_long, wrong_letter, too_short, rank_refusal, word_refusal, RankOf, WordOf}
 use Rattle.coxeter.specs.NormalForm.{down, rise, fall, block, without, index_of, rest_of, normal_from, normal_form, word_normal_form}
 use Rattle.coxeter.specs.Calls.{same_entry, same_window}
 use Rattle.coxeter.proofs.Acceptance.{rank_within}
-use Rattle.shortest_words.specs.declared.Fallback.{Fallback}
-use Rattle.shortest_words.specs.declared.Fallback.TheVariants.{Kept, No, Refused}
+use Rattle.shortest_words.specs.answers.Fallback.{Fallback}
+use Rattle.shortest_words.specs.answers.Fallback.{Kept, No, Refused}
 use Rattle.shortest_words.specs.Fallback.{subword_at, SubwordPlaces, some_subword, is_fallback}
 use Rattle.shortest_words.specs.Calls.{fallback_of, fallback_answer, kept_count, FellBack}
 use Rattle.shortest_words.proofs.Places.{rising_bounds, rising_apart, rising_of}

@@ -12,7 +12,8 @@ use native.Mathlib.Omega.{arith}
 use lib.IntN.{ℤ}
 use lib.ListN.{length, get_or, drop}
 use lib.Seq.{drop-cons, drop-drop}
-use Rattle.coxeter.specs.Kinds.{Kind, lanes}
+use Rattle.coxeter.specs.declared.Kind.{Kind}
+use Rattle.coxeter.specs.Kinds.{lanes}
 use Rattle.coxeter.specs.Windows.{act, window_from, identity, window}
 use Rattle.coxeter.proofs.Order.{same_window_true, same_window_of_eq}
 use Rattle.shortest_words.specs.Fallback.{Rising, subword_at, HasSubword, some_subword}

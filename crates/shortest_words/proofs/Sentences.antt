@@ -15,7 +15,8 @@ use native.Mathlib.Omega.{arith}
 use borrow.Author.Tests.{ltb-true, ltb-false, lt-ltb, le-ltb}
 use lib.IntN.{ℤ}
 use lib.ListN.{length, get_or, take, drop}
-use Rattle.coxeter.specs.Kinds.{Kind, kind_of}
+use Rattle.coxeter.specs.declared.Kind.{Kind}
+use Rattle.coxeter.specs.Kinds.{kind_of}
 use Rattle.coxeter.specs.Windows.{window}
 use Rattle.coxeter.specs.Length.{window_length}
 use Rattle.coxeter.specs.Checks.{check, ◌then◌, too_short, too_long, wrong_letter, rank_refusal, word_refusal, RankOf, WordOf}
@@ -23,8 +24,8 @@ use Rattle.coxeter.specs.NormalForm.{word_normal_form}
 use Rattle.coxeter.proofs.Lists.{get_d_take}
 use Rattle.coxeter.proofs.Refusals.{then_none, rank_refusal_le, word_refusal_le, then_avoids}
 use Rattle.coxeter.proofs.Acceptance.{rank_within, words_accepted}
-use Rattle.shortest_words.specs.declared.Fallback.{Fallback}
-use Rattle.shortest_words.specs.declared.Fallback.TheVariants.{Kept, No, Refused}
+use Rattle.shortest_words.specs.answers.Fallback.{Fallback}
+use Rattle.shortest_words.specs.answers.Fallback.{Kept, No, Refused}
 use Rattle.shortest_words.specs.Fallback.{subword_at, HasSubword, FallbackOf, is_fallback, ShortestSubwordPlaces}
 use Rattle.shortest_words.specs.Calls.{fallback_answer, kept_count, FellBack}
 use Rattle.shortest_words.proofs.Shortest.{window_length_le}

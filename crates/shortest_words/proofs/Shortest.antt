@@ -11,7 +11,8 @@ use Prim.Native.Nat.{ℕ, ◌≤◌}
 use native.Mathlib.Omega.{arith}
 use lib.IntN.{ℤ}
 use lib.ListN.{length, length-reverse}
-use Rattle.coxeter.specs.Kinds.{Kind, least}
+use Rattle.coxeter.specs.declared.Kind.{Kind}
+use Rattle.coxeter.specs.Kinds.{least}
 use Rattle.coxeter.specs.Windows.{window, inverse}
 use Rattle.coxeter.specs.Length.{window_length}
 use Rattle.coxeter.specs.Checks.{wrong_letter}

@@ -13,8 +13,8 @@ use Rattle.coxeter.specs.Checks.{◌then◌, too_short, rank_refusal, word_refus
 use Rattle.coxeter.specs.Calls.{front, written}
 use Rattle.coxeter.proofs.Refusals.{then_zero}
 use Rattle.coxeter.proofs.Acceptance.{two_accepted}
-use Rattle.shortest_words.specs.declared.Split.{Split}
-use Rattle.shortest_words.specs.declared.Split.TheVariants.{Words, Refused}
+use Rattle.shortest_words.specs.answers.Split.{Split}
+use Rattle.shortest_words.specs.answers.Split.{Words, Refused}
 use Rattle.shortest_words.specs.Allowed.{allows, set_refusal}
 use Rattle.shortest_words.specs.Split.{first_word, second_word}
 use Rattle.shortest_words.specs.SplitCalls.{split_of, split_outcome, splitting, SplitYields}

@@ -13,8 +13,8 @@ use Rattle.coxeter.specs.Windows.{window}
 use Rattle.coxeter.specs.Checks.{RankOf, WordOf}
 use Rattle.coxeter.proofs.Acceptance.{rank_within}
 use Rattle.coxeter.proofs.Theorems.{window_passes}
-use Rattle.shortest_words.specs.declared.Split.{Split}
-use Rattle.shortest_words.specs.declared.Split.TheVariants.{Words, Refused}
+use Rattle.shortest_words.specs.answers.Split.{Split}
+use Rattle.shortest_words.specs.answers.Split.{Words, Refused}
 use Rattle.shortest_words.specs.Allowed.{allows}
 use Rattle.shortest_words.specs.Split.{IsSplit, first_word, second_word}
 use Rattle.shortest_words.specs.SplitCalls.{splitting, SplitYields}

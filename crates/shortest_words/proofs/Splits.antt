@@ -10,7 +10,8 @@ use mathlib.Core.List.{List, []}
 use Prim.Native.Nat.{ℕ, ◌+◌, ◌-◌, ◌^◌, ◌≤◌}
 use lib.IntN.{ℤ}
 use lib.ListN.{length, take, drop}
-use Rattle.coxeter.specs.Kinds.{Kind, kind_of, least}
+use Rattle.coxeter.specs.declared.Kind.{Kind}
+use Rattle.coxeter.specs.Kinds.{kind_of, least}
 use Rattle.coxeter.specs.Windows.{window}
 use Rattle.coxeter.specs.Length.{window_length}
 use Rattle.coxeter.specs.Checks.{check, ◌then◌, too_short, word_refusal, RankOf, WindowOf}
@@ -19,7 +20,7 @@ use Rattle.coxeter.proofs.Unchanged.{kept_whole, kept_past, kept_front}
 use Rattle.coxeter.proofs.Acceptance.{rank_within}
 use Rattle.coxeter.proofs.Levels.{accepted_of_refusal}
 use Rattle.coxeter.proofs.Theorems.{window_passes}
-use Rattle.shortest_words.specs.declared.Split.TheVariants.{Words, Refused}
+use Rattle.shortest_words.specs.answers.Split.{Words, Refused}
 use Rattle.shortest_words.specs.Allowed.{allows, set_refusal}
 use Rattle.shortest_words.specs.Split.{IsSplit, first_word, second_word}
 use Rattle.shortest_words.specs.SplitCalls.{split_outcome, splitting}

@@ -13,7 +13,8 @@ use native.Mathlib.Decide.{ℕ_discrete}
 use native.Mathlib.Omega.{arith}
 use lib.IntN.{ℤ}
 use lib.ListN.{length, length-append, length-reverse}
-use Rattle.coxeter.specs.Kinds.{Kind, pick, least, lanes}
+use Rattle.coxeter.specs.declared.Kind.{Kind}
+use Rattle.coxeter.specs.Kinds.{pick, least, lanes}
 use Rattle.coxeter.specs.Windows.{act, window_from, identity, window, product, inverse}
 use Rattle.coxeter.specs.Length.{window_length}
 use Rattle.coxeter.specs.Checks.{wrong_letter}

@@ -4,7 +4,8 @@ use mathlib.Core.Path.{◌≡◌, refl}
 use mathlib.Core.List.{[], ◌∷◌}
 use Prim.Native.Nat.{◌≤◌}
 use native.Mathlib.Omega.{arith}
-use Rattle.coxeter.specs.Kinds.{A, up}
+use Rattle.coxeter.specs.declared.Kind.TheVariants.{A}
+use Rattle.coxeter.specs.Kinds.{up}
 use Rattle.coxeter.specs.Windows.{from, swap, act, window_from, identity, window}
 use Rattle.coxeter.specs.Checks.{wrong_letter}
 use Rattle.shortest_words.specs.OneLetter.{Shortest, drop_at}

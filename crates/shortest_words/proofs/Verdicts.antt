@@ -13,7 +13,8 @@ use lib.Dec.{eqb}
 use lib.IntN.{ℤ}
 use lib.ListN.{length, take, drop}
 use borrow.Author.Tests.{eq-eqb, ne_eqb, lt-ltb, le-ltb}
-use Rattle.coxeter.specs.Kinds.{Kind, pick, kind_of, least, lanes}
+use Rattle.coxeter.specs.declared.Kind.{Kind}
+use Rattle.coxeter.specs.Kinds.{pick, kind_of, least, lanes}
 use Rattle.coxeter.specs.Windows.{identity, window}
 use Rattle.coxeter.specs.Length.{window_length}
 use Rattle.coxeter.specs.Checks.{check, ◌then◌, too_short, rank_refusal, word_refusal, wrong_letter}
@@ -26,8 +27,8 @@ use Rattle.coxeter.proofs.Refusals.{then_assoc, then_zero}
 use Rattle.coxeter.proofs.Order.{same_window_true, same_window_of_eq}
 use Rattle.coxeter.proofs.FrontLaws.{take-front, drop-front}
 use Rattle.coxeter.proofs.TestLaws.{impossible}
-use Rattle.shortest_words.specs.declared.Fallback.{Fallback}
-use Rattle.shortest_words.specs.declared.Fallback.TheVariants.{Kept, No, Refused}
+use Rattle.shortest_words.specs.answers.Fallback.{Fallback}
+use Rattle.shortest_words.specs.answers.Fallback.{Kept, No, Refused}
 use Rattle.shortest_words.specs.Fallback.{ShortestSubwordPlaces, some_subword, is_fallback}
 use Rattle.shortest_words.specs.Calls.{fallback_of, simpler_length, fallback_answer, kept_count, FellBack}
 use Rattle.shortest_words.proofs.Places.{some_subword_exactly}

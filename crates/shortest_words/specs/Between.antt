@@ -1,7 +1,7 @@
 -- Words over allowed steps from one window to another (section A of the specification). First what the answer is,
 -- then a definition of it.
 use Rattle.std.specs.Prelude.{◌≡◌, Bool, true, false, List, ℕ, ℤ}
-use Rattle.coxeter.specs.Kinds.{Kind}
+use Rattle.coxeter.specs.declared.Kind.{Kind}
 use Rattle.coxeter.specs.Windows.{window_from, window, product, inverse}
 use Rattle.coxeter.specs.Dictionary.{shortlex}
 use Rattle.coxeter.specs.Checks.{wrong_letter}

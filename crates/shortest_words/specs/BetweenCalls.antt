@@ -1,6 +1,7 @@
 -- What the call from one window to another returns and writes, for every input (I23 and C19 of the specification).
 use Rattle.std.specs.Prelude.{Bool, not, List, ℕ, ℤ}
-use Rattle.coxeter.specs.Kinds.{Kind, kind_of}
+use Rattle.coxeter.specs.declared.Kind.{Kind}
+use Rattle.coxeter.specs.Kinds.{kind_of}
 use Rattle.coxeter.specs.Checks.{check, ◌then◌, window_refusal}
 use Rattle.coxeter.specs.Calls.{Outcome, writes}
 use Rattle.shortest_words.specs.Allowed.{allows, set_refusal}

@@ -5,8 +5,8 @@ use Rattle.coxeter.specs.Windows.{window}
 use Rattle.coxeter.specs.Length.{window_length}
 use Rattle.coxeter.specs.Checks.{check, ◌then◌, too_short, rank_refusal, word_refusal}
 use Rattle.coxeter.specs.NormalForm.{word_normal_form}
-use Rattle.shortest_words.specs.declared.Fallback.{Fallback}
-use Rattle.shortest_words.specs.declared.Fallback.TheVariants.{Kept, No, Refused}
+use Rattle.shortest_words.specs.answers.Fallback.{Fallback}
+use Rattle.shortest_words.specs.answers.Fallback.{Kept, No, Refused}
 use Rattle.shortest_words.specs.Fallback.{ShortestSubwordPlaces, is_fallback}
 
 -- I18, G17: the number and the values of each case of `Fallback`: its refusal, or with none the number of places

@@ -1,6 +1,6 @@
 -- Descents, the field's word for steps that make a window shorter (section X of the specification).
 use Rattle.std.specs.Prelude.{Bool, List, ℕ, ltb, ℤ}
-use Rattle.coxeter.specs.Kinds.{Kind}
+use Rattle.coxeter.specs.declared.Kind.{Kind}
 use Rattle.coxeter.specs.Windows.{act}
 use Rattle.coxeter.specs.Length.{window_length}
 

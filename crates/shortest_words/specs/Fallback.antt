@@ -1,7 +1,8 @@
 -- Fallbacks, in the field's words the Bruhat order (section F of the specification): subwords of a word, which document
 -- 02 calls part-lists, by their places, which count from 0, and the verdict.
 use Rattle.std.specs.Prelude.{◌≡◌, Bool, ◌||◌, List, [], ◌∷◌, ℕ, suc, ◌≤◌, ◌<◌, ℤ, length, get_or}
-use Rattle.coxeter.specs.Kinds.{Kind, lanes}
+use Rattle.coxeter.specs.declared.Kind.{Kind}
+use Rattle.coxeter.specs.Kinds.{lanes}
 use Rattle.coxeter.specs.Windows.{act, identity, window}
 use Rattle.coxeter.specs.Length.{window_length}
 use Rattle.coxeter.specs.NormalForm.{word_normal_form}

@@ -6,6 +6,7 @@ pub mod Fallback
 pub mod Allowed
 pub mod Split
 pub mod Between
+pub mod answers
 pub mod Calls
 pub mod SplitCalls
 pub mod BetweenCalls

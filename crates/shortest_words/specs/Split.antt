@@ -3,7 +3,8 @@
 -- (`splits` of proofs/Splits.antt), and no other two words have (`splits_only`).
 use Rattle.std.specs.Prelude.{◌≡◌, Bool, true, ◌&&◌, List, ◌∷◌, ℕ, zero, suc, ◌+◌, ℤ, length}
 use Rattle.std.proofs.Math.Option.{Option, none, some}
-use Rattle.coxeter.specs.Kinds.{Kind, pick}
+use Rattle.coxeter.specs.declared.Kind.{Kind}
+use Rattle.coxeter.specs.Kinds.{pick}
 use Rattle.coxeter.specs.Windows.{act, window, product, inverse}
 use Rattle.coxeter.specs.Length.{window_length}
 use Rattle.coxeter.specs.NormalForm.{normal_form, IsNormalForm}

@@ -14,7 +14,8 @@ use native.Mathlib.Omega.{arith}
 use lib.Dec.{eqb}
 use lib.ListN.{length, get_or, drop, length-append, length-drop, get_or-append}
 use lib.Seq.{append_snoc, drop-append-le, drop-drop, get_or-drop}
-use Rattle.coxeter.specs.Kinds.{Kind, least}
+use Rattle.coxeter.specs.declared.Kind.{Kind}
+use Rattle.coxeter.specs.Kinds.{least}
 use Rattle.coxeter.proofs.TestLaws.{not_true_false}
 use Rattle.rules.specs.Rules.{Rule, rules, begins, fits, Irreducible}
 use Rattle.rules.proofs.Fits.{begins-append, begins_split, none_first_fitting, first_fitting_of_unique, left_nonempty}

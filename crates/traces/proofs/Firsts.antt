@@ -13,7 +13,7 @@ use Rattle.coxeter.specs.Calls.{answer_of}
 use Rattle.coxeter.proofs.Refusals.{refused_exactly, then_assoc, good_exactly}
 use Rattle.coxeter.proofs.FirstFailing.{check_then, rank_then, word_then}
 use Rattle.coxeter.proofs.FirstRefusals.{word_checks}
-use Rattle.traces.specs.declared.ToEnd.TheVariants.{Ended, Refused}
+use Rattle.traces.specs.answers.ToEnd.{Ended, Refused}
 use Rattle.traces.specs.Traces.{trace, too_few_places, to_end_of, traced_by, rewriting_to_end, number_of_steps}
 
 -- G17, CO3: an answer on a rewriting names the refusal if that is not 0; else it says the steps and the final length

@@ -14,7 +14,8 @@ use native.Mathlib.Omega.{arith}
 use lib.IntN.{ℤ}
 use lib.ListN.{length, length-append}
 use borrow.Author.Tests.{eq-eqb, ne_eqb, ltb-true}
-use Rattle.coxeter.specs.Kinds.{Kind, least, lanes}
+use Rattle.coxeter.specs.declared.Kind.{Kind}
+use Rattle.coxeter.specs.Kinds.{least, lanes}
 use Rattle.coxeter.specs.Windows.{act, window_from, identity, window, product}
 use Rattle.coxeter.specs.Checks.{wrong_letter}
 use Rattle.coxeter.specs.Dictionary.{before, shortlex}

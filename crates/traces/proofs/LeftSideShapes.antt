@@ -13,7 +13,8 @@ use lib.Dec.{ltb}
 use lib.ListN.{length, get_or, length-append, get_or-append}
 use lib.Seq.{get_or-append_seam, get_or-append-add}
 use borrow.Author.Tests.{lt-ltb, le-ltb}
-use Rattle.coxeter.specs.Kinds.{Kind, pick, least}
+use Rattle.coxeter.specs.declared.Kind.{Kind}
+use Rattle.coxeter.specs.Kinds.{pick, least}
 use Rattle.coxeter.specs.NormalForm.{block, levels, last_index}
 use Rattle.coxeter.proofs.KindLaws.{levels_le}
 use Rattle.coxeter.proofs.LetterRuns.{IsBlock}

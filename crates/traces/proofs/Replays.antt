@@ -33,7 +33,7 @@ use Rattle.rules.proofs.Completeness.{rewrites_letters, rewrites_length}
 use Rattle.rules.proofs.Calls.{accepted_least, accepted_letters, accepted_of_shorter, stepped, single_lawful}
 use Rattle.rules.proofs.UsedRules.{answer_of_none, usable_changed, stepped_used, nowhere_fits_iff}
 use Rattle.rules.proofs.CallLists.{new_word_exactly}
-use Rattle.traces.specs.declared.ToEnd.TheVariants.{Ended}
+use Rattle.traces.specs.answers.ToEnd.{Ended}
 use Rattle.traces.specs.Traces.{Redex, lowest_redex, Line, Trace, trace, families_of, places_of, lengths_of, rewriting_to_end}
 use Rattle.traces.specs.Traces.{NoneFitsBelow, Replays, traced_by, too_few_places}
 use Rattle.traces.proofs.Traces.{Lowest, irreducible_of_none, after, line_of, continued, lowest_rewrites, trace_induction, trace-normal_form}

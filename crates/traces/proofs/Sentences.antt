@@ -9,7 +9,7 @@ use Prim.Native.Nat.{ℕ, suc, ◌≤◌, ◌<◌}
 use native.Mathlib.Omega.{arith}
 use borrow.Author.Tests.{eq-eqb, le-ltb}
 use lib.ListN.{length, get_or, take, drop, length-map, length-append}
-use Rattle.coxeter.specs.declared.Answer.TheVariants as answer
+use Rattle.coxeter.specs.answers.Answer as answer
 use Rattle.coxeter.specs.Kinds.{kind_of}
 use Rattle.coxeter.specs.Windows.{window}
 use Rattle.coxeter.specs.Checks.{too_short, rank_refusal, word_refusal}
@@ -25,7 +25,7 @@ use Rattle.rules.specs.Runs.{AcceptedWord, Result, Call, word_after, word_left, 
 use Rattle.rules.specs.Demand3.{NowhereFits}
 use Rattle.rules.proofs.Calls.{accepted_least}
 use Rattle.rules.proofs.Theorems.{normal_form-least}
-use Rattle.traces.specs.declared.ToEnd.TheVariants.{Ended}
+use Rattle.traces.specs.answers.ToEnd.{Ended}
 use Rattle.traces.specs.Traces.{Line, families_of, places_of, lengths_of, rewriting_to_end}
 use Rattle.traces.specs.Traces.{TraceYields, number_of_steps, NoneFitsBelow, Replays}
 use Rattle.traces.proofs.Unchanged.{to_end_past}

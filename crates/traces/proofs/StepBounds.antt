@@ -12,14 +12,14 @@ use native.Mathlib.Decide.{ℕ_discrete}
 use native.Mathlib.Omega.{arith}
 use lib.ListN.{length}
 use borrow.Author.Tests.{le-ltb}
-use Rattle.coxeter.specs.declared.Answer.TheVariants as answer
+use Rattle.coxeter.specs.answers.Answer as answer
 use Rattle.coxeter.specs.Kinds.{kind_of}
 use Rattle.coxeter.specs.Checks.{check, ◌then◌, too_short, rank_refusal, word_refusal}
 use Rattle.coxeter.proofs.Refusals.{then_zero, then_none, then_some, check_le, then_le, rank_refusal_le, word_refusal_le}
 use Rattle.coxeter.proofs.AnswersExactly.{answer_of_exactly}
 use Rattle.rules.specs.Runs.{AcceptedWord}
 use Rattle.rules.proofs.Calls.{accepted_least, accepted_letters}
-use Rattle.traces.specs.declared.ToEnd.TheVariants as to_end
+use Rattle.traces.specs.answers.ToEnd as to_end
 use Rattle.traces.specs.Traces.{trace, too_few_places, traced_by, rewriting_to_end, number_of_steps}
 use Rattle.traces.proofs.Firsts.{to_end_of_exactly}
 use Rattle.traces.proofs.Reading.{steps_at_most}

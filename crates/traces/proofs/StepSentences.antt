@@ -11,7 +11,7 @@ use native.Mathlib.Omega.{arith}
 use borrow.Author.Tests.{eq-eqb, ne_eqb, ltb-true, ltb-false, lt-ltb, le-ltb}
 use lib.Dec.{ltb}
 use lib.ListN.{length}
-use Rattle.coxeter.specs.declared.Answer.TheVariants as answer
+use Rattle.coxeter.specs.answers.Answer as answer
 use Rattle.coxeter.specs.Kinds.{kind_of}
 use Rattle.coxeter.specs.Checks.{check, ◌then◌, too_short, rank_refusal, word_refusal, RankOf, WordOf}
 use Rattle.coxeter.specs.NormalForm.{word_normal_form}
@@ -22,8 +22,8 @@ use Rattle.coxeter.proofs.Basics.{or_false_left, or_false_right}
 use Rattle.coxeter.proofs.TestLaws.{impossible}
 use Rattle.rules.specs.Runs.{AcceptedWord}
 use Rattle.rules.proofs.Calls.{accepted_least, accepted_letters}
-use Rattle.traces.specs.declared.ToEnd.{ToEnd}
-use Rattle.traces.specs.declared.ToEnd.TheVariants.{Ended, Refused}
+use Rattle.traces.specs.answers.ToEnd.{ToEnd}
+use Rattle.traces.specs.answers.ToEnd.{Ended, Refused}
 use Rattle.traces.specs.Traces.{Line, trace, too_few_places, to_end_of, traced_by, rewriting_to_end}
 use Rattle.traces.specs.Traces.{TraceYields, number_of_steps, Replays}
 use Rattle.traces.proofs.Traces.{trace-normal_form}

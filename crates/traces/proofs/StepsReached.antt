@@ -14,7 +14,8 @@ use native.Mathlib.Omega.{arith}
 use lib.ListN.{length, get_or, take, length-append}
 use lib.Seq.{append_snoc, take-suc, take-length, get_or_at, length-take-le}
 use borrow.Author.Tests.{ne_eqb, lt-ltb}
-use Rattle.coxeter.specs.Kinds.{Kind, least}
+use Rattle.coxeter.specs.declared.Kind.{Kind}
+use Rattle.coxeter.specs.Kinds.{least}
 use Rattle.coxeter.specs.Checks.{wrong_letter}
 use Rattle.coxeter.specs.NormalForm.{levels}
 use Rattle.coxeter.proofs.LetterLaws.{letter_within_cons}

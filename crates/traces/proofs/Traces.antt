@@ -15,7 +15,8 @@ use native.Mathlib.Nat.{lt_of_not-le, lt_of_lt_of_le, add-mul, mul_assoc, mul-le
 use native.Mathlib.Decide.{dec_le}
 use native.Mathlib.Omega.{arith}
 use lib.ListN.{length}
-use Rattle.coxeter.specs.Kinds.{Kind, least}
+use Rattle.coxeter.specs.declared.Kind.{Kind}
+use Rattle.coxeter.specs.Kinds.{least}
 use Rattle.coxeter.specs.Checks.{wrong_letter}
 use Rattle.coxeter.specs.NormalForm.{normal_form, word_normal_form}
 use Rattle.coxeter.proofs.LetterLaws.{letter_within_cons}

@@ -15,7 +15,8 @@ use native.Mathlib.Numerals.{add-one}
 use native.Mathlib.Omega.{arith}
 use lib.ListN.{length, take, set, length-append}
 use lib.Seq.{sets}
-use Rattle.coxeter.specs.Kinds.{Kind, kind_of, least}
+use Rattle.coxeter.specs.declared.Kind.{Kind}
+use Rattle.coxeter.specs.Kinds.{kind_of, least}
 use Rattle.coxeter.specs.Checks.{wrong_letter}
 use Rattle.coxeter.proofs.Acceptance.{rank_within, letters_accepted, length_accepted}
 use Rattle.coxeter.proofs.Relations.{letters-append}

@@ -8,7 +8,7 @@ use lib.ListN.{length, drop, length-map}
 use Rattle.coxeter.specs.Kinds.{kind_of}
 use Rattle.coxeter.specs.Checks.{check, ◌then◌, too_short, rank_refusal, word_refusal}
 use Rattle.coxeter.proofs.Unchanged.{kept_whole, kept_past}
-use Rattle.traces.specs.declared.ToEnd.TheVariants as to_end
+use Rattle.traces.specs.answers.ToEnd as to_end
 use Rattle.traces.specs.Traces.{Line, too_few_places, families_of, places_of, lengths_of, traced_by, trace, rewriting_to_end}
 use Rattle.traces.proofs.Firsts.{to_end_of_exactly}
 

@@ -2,8 +2,9 @@
 -- of the specification).
 use Rattle.std.specs.Prelude.{◌≡◌, Bool, false, ◌||◌, List, [], ◌∷◌, map, ℕ, zero, suc, ◌+◌, ◌^◌, ◌<◌, eqb, length, take}
 use Rattle.std.proofs.Math.Option.{Option, none, some}
-use Rattle.coxeter.specs.declared.Answer.{Answer}
-use Rattle.coxeter.specs.Kinds.{Kind, pick, kind_of}
+use Rattle.coxeter.specs.answers.Answer.{Answer}
+use Rattle.coxeter.specs.declared.Kind.{Kind}
+use Rattle.coxeter.specs.Kinds.{pick, kind_of}
 use Rattle.coxeter.specs.Checks.{check, ◌then◌, too_short, rank_refusal, word_refusal}
 use Rattle.coxeter.specs.Calls.{answer_of, written}
 use Rattle.rules.specs.declared.Rewrite.{Rewrite}
@@ -11,8 +12,8 @@ use Rattle.rules.specs.declared.Rewrite.TheVariants.{Used, NoneFits}
 use Rattle.rules.specs.Rules.{Rule, rules, first_fitting, rewritten}
 use Rattle.rules.specs.Calls.{Rewrote, single}
 use Rattle.rules.specs.Demand3.{NowhereFits}
-use Rattle.traces.specs.declared.ToEnd.{ToEnd}
-use Rattle.traces.specs.declared.ToEnd.TheVariants.{Ended, Refused}
+use Rattle.traces.specs.answers.ToEnd.{ToEnd}
+use Rattle.traces.specs.answers.ToEnd.{Ended, Refused}
 
 -- ---- the rewriting
 

@@ -14,11 +14,15 @@ use lib.ListN.{length, get_or, set}
 use lib.Signed.{mag}
 use mir.Syntax.{w8}
 use mir.Val.{to_z, of_z}
-use Rattle.coxeter.specs.Kinds.{Kind, A, B, D, kind_of, lanes}
+use Rattle.coxeter.specs.declared.Group.{Group}
+use Rattle.coxeter.specs.declared.Kind.{Kind}
+use Rattle.coxeter.specs.declared.Kind.TheVariants.{A, B, D}
+use Rattle.coxeter.specs.Kinds.{kind_of, lanes}
 use Rattle.coxeter.specs.Windows.{from, swap, negate_first, swap_negate, act}
 use Rattle.coxeter.specs.Checks.{WindowOf}
-use Rattle.coxeter.proofs.KindLaws.{lanes_le_add_one, kind_of-one, kind_of-two, kind_of_three}
+use Rattle.coxeter.proofs.KindLaws.{lanes_le_add_one, kind_of-one, kind_of-two, kind_of_three, A≢B, B≢D}
 use Rattle.coxeter.proofs.Acceptance.{Ranked}
+use Rattle.coxeter.proofs.Groups.{in_range_ranked}
 use Rattle.coxeter.proofs.Levels.{Between, accepted_of_refusal}
 use Rattle.coxeter.proofs.Steps.{act-swap, act-B_last, act-D_last}
 use Rattle.refusals.proofs.Bytes.{held, element_back}
@@ -91,9 +95,12 @@ size_lt_of_refusal k n p w h r =
 
 -- ---- one step
 
--- what `act_on` requires
-abbrev pub ActRequires : ℕ → ℕ → ℕ → List ℤ → Type 0
-ActRequires k n s w = ((1 ≤ s) × (s ≤ n)) × (Ranked (kind_of k) n × WindowOf (kind_of k) n w)
+-- what a step is asked: it is one of the group's, and the window is accepted
+abbrev pub StepOf : Kind → ℕ → ℕ → List ℤ → Type 0
+StepOf k n s w = ((1 ≤ s) × (s ≤ n)) × (Ranked k n × WindowOf k n w)
+
+pub step_of : (g : Group) {s : ℕ} (w : List ℤ) → (1 ≤ s) × (s ≤ g.rank) → WindowOf g.kind g.rank w → StepOf g.kind g.rank s w
+step_of g w h r = (h, (in_range_ranked g.kind g.rank g.in_range, r))
 
 -- every step has an entry at s − 1, step n of B and D too
 place_lt : (k : Kind) (n s : ℕ) (w : List ℤ) → 1 ≤ s → s ≤ n → WindowOf k n w → s - 1 < length w
@@ -101,16 +108,16 @@ place_lt A n s w h l r = omega (arith, length_of_refusal A n w r)
 place_lt B n s w h l r = omega (arith, length_of_refusal B n w r)
 place_lt D n s w h l r = omega (arith, length_of_refusal D n w r)
 
-pub place_lt_of_requires : (k n s : ℕ) (w : List ℤ) → ActRequires k n s w → s - 1 < length w
-place_lt_of_requires k n s w h = place_lt (kind_of k) n s w h.0.0 h.0.1 h.1.1
+pub place_lt_of_step : (k : Kind) (n s : ℕ) (w : List ℤ) → StepOf k n s w → s - 1 < length w
+place_lt_of_step k n s w h = place_lt k n s w h.0.0 h.0.1 h.1.1
 
 swap_eq_act-suc : (k : Kind) (n p : ℕ) (w : List ℤ) → suc p < lanes k n → from (suc p - 1) swap w ≡ act k n (suc p) w
 swap_eq_act-suc k n p w h = let e : suc p - 1 ≡ p = omega arith in rw (e, act-swap k n p h)
 
 -- a step below the number of lanes swaps two entries
-pub swap_eq_act : (k n s : ℕ) (w : List ℤ) → ActRequires k n s w → s < length w → from (s - 1) swap w ≡ act (kind_of k) n s w
-swap_eq_act k n zero w h l = let z : ⊥ = omega (arith, h.0.0) in absurd z
-swap_eq_act k n (suc p) w h l = swap_eq_act-suc (kind_of k) n p w (rw (length_of_refusal (kind_of k) n w h.1.1) at l)
+pub swap_is_act : (k : Kind) (n s : ℕ) (w : List ℤ) → StepOf k n s w → s < length w → from (s - 1) swap w ≡ act k n s w
+swap_is_act k n zero w h l = let z : ⊥ = omega (arith, h.0.0) in absurd z
+swap_is_act k n (suc p) w h l = swap_eq_act-suc k n p w (rw (length_of_refusal k n w h.1.1) at l)
 
 -- any other step is step n, and the kind is B or D
 pub last_step : (k : Kind) (n s : ℕ) (w : List ℤ) → s ≤ n → length w ≤ s → WindowOf k n w → (s ≡ n) × (length w ≡ n)
@@ -118,41 +125,75 @@ last_step A n s w h l r = let z : ⊥ = omega (arith, length_of_refusal A n w r)
 last_step B n s w h l r = omega (arith, length_of_refusal B n w r)
 last_step D n s w h l r = omega (arith, length_of_refusal D n w r)
 
-pub last_kind : (k n s : ℕ) (w : List ℤ) → ActRequires k n s w → length w ≤ s → (k ≡ 2 → ⊥) → kind_of k ≡ D
-last_kind k n s w h l f = elim (ℕ_discrete k 1) [ yes e ↦ absurd (never e) | no g ↦ kind_of_three k g f ]
-  where
-    never : k ≡ 1 → ⊥
-    never e = omega (arith, length_of_refusal A n w (rw (kind_of-one k e) at h.1.1), h.0.1)
+pub last_is_D : (k : Kind) (n s : ℕ) (w : List ℤ) → StepOf k n s w → length w ≤ s → (k ≡ B → ⊥) → k ≡ D
+last_is_D A n s w h l f = let z : ⊥ = omega (arith, length_of_refusal A n w h.1.1, h.0.1) in absurd z
+last_is_D B n s w h l f = absurd (f refl)
+last_is_D D n s w h l f = refl
 
-module _ (k n s : ℕ) (w : List ℤ) (h : ActRequires k n s w) (l : length w ≤ s) where
+module _ (k : Kind) (n s : ℕ) (w : List ℤ) (h : StepOf k n s w) (l : length w ≤ s) where
   last : (s ≡ n) × (length w ≡ n)
-  last = last_step (kind_of k) n s w h.0.1 l h.1.1
+  last = last_step k n s w h.0.1 l h.1.1
 
   small : (p : ℕ) → nat_abs (get_or w p (pos 0)) < 128
-  small p = size_lt_of_refusal (kind_of k) n p w h.1.0.1 h.1.1
+  small p = size_lt_of_refusal k n p w h.1.0.1 h.1.1
 
-  pub negate_at_requires_of_last : (n - 1 < length w) × (nat_abs (get_or w (n - 1) (pos 0)) < 128)
-  negate_at_requires_of_last = (omega (arith, last, h.0.0), small (n - 1))
+  pub negate_at_asks : (n - 1 < length w) × (nat_abs (get_or w (n - 1) (pos 0)) < 128)
+  negate_at_asks = (omega (arith, last, h.0.0), small (n - 1))
 
-  pub negate_first_eq_act : k ≡ 2 → from (n - 1) negate_first w ≡ act (kind_of k) n s w
-  negate_first_eq_act e = rw (kind_of-two k e, last.0, act-B_last n (n - 1) (omega (arith, last, h.0.0)))
+  pub negate_first_is_act : k ≡ B → from (n - 1) negate_first w ≡ act k n s w
+  negate_first_is_act e = rw (e, last.0, act-B_last n (n - 1) (omega (arith, last, h.0.0)))
 
   -- the entry read at s − 1, as code holds it, is the one at p
   held_eq_get_or : (p : ℕ) → s - 1 ≡ p → mag (get_or w (s - 1) (pos 0)) < 128 → held (get_or w (s - 1) (pos 0)) ≡ get_or w p (pos 0)
   held_eq_get_or p e m = element_back (get_or w (s - 1) (pos 0)) m ∙ ap (λ (i : ℕ). get_or w i (pos 0)) e
 
-  pub held_eq_last : mag (get_or w (s - 1) (pos 0)) < 128 → held (get_or w (s - 1) (pos 0)) ≡ get_or w (n - 1) (pos 0)
-  held_eq_last = held_eq_get_or (n - 1) (omega (arith, last))
+  pub held_is_last : mag (get_or w (s - 1) (pos 0)) < 128 → held (get_or w (s - 1) (pos 0)) ≡ get_or w (n - 1) (pos 0)
+  held_is_last = held_eq_get_or (n - 1) (omega (arith, last))
+
+  pub four_le : (k ≡ B → ⊥) → 4 ≤ n
+  four_le f = rw (last_is_D k n s w h l f) at h.1.0.0
+
+  pub swap_negate_at_asks : (k ≡ B → ⊥)
+      → (n - 2 + 1 < length w) × ((nat_abs (get_or w (n - 2) (pos 0)) < 128) × (nat_abs (get_or w (n - 2 + 1) (pos 0)) < 128))
+  swap_negate_at_asks f = (omega (arith, last, four_le f), (small (n - 2), small (n - 2 + 1)))
+
+  pub held_is_last_of_D : (k ≡ B → ⊥) → mag (get_or w (s - 1) (pos 0)) < 128 → held (get_or w (s - 1) (pos 0)) ≡ get_or w (n - 2 + 1) (pos 0)
+  held_is_last_of_D f = held_eq_get_or (n - 2 + 1) (omega (arith, last, four_le f))
+
+  pub swap_negate_is_act : (k ≡ B → ⊥) → from (n - 2) swap_negate w ≡ act k n s w
+  swap_negate_is_act f = rw (last_is_D k n s w h l f, last.0, act-D_last n (n - 2) (omega (arith, four_le f)))
+
+-- ---- one step, of a kind by its number
+
+abbrev pub ActRequires : ℕ → ℕ → ℕ → List ℤ → Type 0
+ActRequires k = StepOf (kind_of k)
+
+not_two : (k : ℕ) → (k ≡ 2 → ⊥) → kind_of k ≡ B → ⊥
+not_two k f e =
+    elim (ℕ_discrete k 1) [
+      | yes g ↦ A≢B (sym (kind_of-one k g) ∙ e)
+      | no g ↦ B≢D (sym e ∙ kind_of_three k g f)
+    ]
+
+pub swap_eq_act : (k n s : ℕ) (w : List ℤ) → ActRequires k n s w → s < length w → from (s - 1) swap w ≡ act (kind_of k) n s w
+swap_eq_act k = swap_is_act (kind_of k)
+
+pub last_kind : (k n s : ℕ) (w : List ℤ) → ActRequires k n s w → length w ≤ s → (k ≡ 2 → ⊥) → kind_of k ≡ D
+last_kind k n s w h l f = last_is_D (kind_of k) n s w h l (not_two k f)
+
+module _ (k n s : ℕ) (w : List ℤ) (h : ActRequires k n s w) (l : length w ≤ s) where
+  pub negate_at_requires_of_last : (n - 1 < length w) × (nat_abs (get_or w (n - 1) (pos 0)) < 128)
+  negate_at_requires_of_last = negate_at_asks (kind_of k) n s w h l
+
+  pub negate_first_eq_act : k ≡ 2 → from (n - 1) negate_first w ≡ act (kind_of k) n s w
+  negate_first_eq_act e = negate_first_is_act (kind_of k) n s w h l (kind_of-two k e)
 
   pub four_le_of_last : (k ≡ 2 → ⊥) → 4 ≤ n
-  four_le_of_last f = rw (last_kind k n s w h l f) at h.1.0.0
+  four_le_of_last f = four_le (kind_of k) n s w h l (not_two k f)
 
   pub swap_negate_at_requires_of_last : (k ≡ 2 → ⊥)
       → (n - 2 + 1 < length w) × ((nat_abs (get_or w (n - 2) (pos 0)) < 128) × (nat_abs (get_or w (n - 2 + 1) (pos 0)) < 128))
-  swap_negate_at_requires_of_last f = (omega (arith, last, four_le_of_last f), (small (n - 2), small (n - 2 + 1)))
-
-  pub held_eq_last_of_D : (k ≡ 2 → ⊥) → mag (get_or w (s - 1) (pos 0)) < 128 → held (get_or w (s - 1) (pos 0)) ≡ get_or w (n - 2 + 1) (pos 0)
-  held_eq_last_of_D f = held_eq_get_or (n - 2 + 1) (omega (arith, last, four_le_of_last f))
+  swap_negate_at_requires_of_last f = swap_negate_at_asks (kind_of k) n s w h l (not_two k f)
 
   pub swap_negate_eq_act : (k ≡ 2 → ⊥) → from (n - 2) swap_negate w ≡ act (kind_of k) n s w
-  swap_negate_eq_act f = rw (last_kind k n s w h l f, last.0, act-D_last n (n - 2) (omega (arith, four_le_of_last f)))
+  swap_negate_eq_act f = swap_negate_is_act (kind_of k) n s w h l (not_two k f)

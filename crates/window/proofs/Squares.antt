@@ -10,7 +10,8 @@ use lib.Dec.{ltb}
 use lib.IntN.{ℤ}
 use lib.ListN.{length}
 use borrow.Author.Tests.{le-ltb}
-use Rattle.coxeter.specs.Kinds.{Kind, A, B, D}
+use Rattle.coxeter.specs.declared.Kind.{Kind}
+use Rattle.coxeter.specs.declared.Kind.TheVariants.{A, B, D}
 use Rattle.coxeter.specs.Length.{window_length, greatest_length}
 use Rattle.coxeter.specs.Checks.{WindowOf}
 use Rattle.coxeter.specs.NormalForm.{normal_form}

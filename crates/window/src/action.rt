@@ -1,11 +1,11 @@
 // Steps on a window, in place: each changes one or two entries, so a word costs constant work a letter.
 ghost use Rattle.std.specs.Prelude.{◌≡◌, ◌+◌, ◌<◌, ◌≤◌, nat_abs, pos, length, get_or};
-ghost use Rattle.coxeter.specs.Kinds.{kind_of, lanes};
+ghost use Rattle.coxeter.specs.Kinds.{lanes};
 ghost use Rattle.coxeter.specs.Windows.{from, swap, negate_first, swap_negate, act, window_from, identity, window};
-ghost use Rattle.coxeter.specs.Checks.{WordOf, WindowOf};
-ghost use Rattle.coxeter.proofs.Acceptance.{Ranked};
+ghost use Rattle.coxeter.specs.Checks.{WindowOf};
 
-use super::entries::negated;
+use crate::entries::negated;
+use coxeter::{Group, Kind, Word};
 
 // w[p] and w[p + 1] swapped, where w[p] is a.
 fn swap_at(w: &mut [i8], p: usize, a: i8)
@@ -46,60 +46,51 @@ fn swap_negate_at(w: &mut [i8], p: usize, b: i8)
 // A has an entry more than steps. The entry at s - 1, which each of them needs, is read before it is known which
 // step it is. Read beside its neighbour, the compiler would swap both with one 16-bit rotate, and the next load would
 // stall.
-fn act_on(kind: u8, n: usize, s: usize, w: &mut [i8])
-    requires le_s { (1 ≤ s) × (s ≤ n) }
-    requires ranked { Ranked (kind_of kind) n }
-    requires window_of { WindowOf (kind_of kind) n w.old }
-    ensures { w.new ≡ act (kind_of kind) n s w.old }
+fn act_on(group: Group, s: usize, w: &mut [i8])
+    requires le_s { (1 ≤ s) × (s ≤ group.rank) }
+    requires window_of { WindowOf group.kind group.rank w.old }
+    ensures { w.new ≡ act group.kind group.rank s w.old }
 {
+    let n = group.rank as usize;
     let a = w[s - 1];
     if s < w.len() {
         swap_at(w, s - 1, a);
         return;
     }
-    if kind == 2 {
-        negate_at(w, n - 1, a);
-        return;
+    match group.kind {
+        Kind::B => negate_at(w, n - 1, a),
+        Kind::A | Kind::D => swap_negate_at(w, n - 2, a),
     }
-    swap_negate_at(w, n - 2, a);
 }
 
 // The steps of a word from the left.
-pub(crate) fn apply(kind: u8, n: usize, word: &[u8], w: &mut [i8])
-    requires ranked { Ranked (kind_of kind) n }
-    requires word_of { WordOf n word.now }
-    requires window_of { WindowOf (kind_of kind) n w.old }
-    ensures { w.new ≡ window_from (kind_of kind) n w.old word.now }
+pub(crate) fn apply(word: Word, w: &mut [i8])
+    requires { WindowOf word.group.kind word.group.rank w.old }
+    ensures { w.new ≡ window_from word.entry.group.kind word.entry.group.rank w.old word.entry.letters.now }
 {
-    let mut i = 0;
-    while i < word.len() {
-        act_on(kind, n, word[i] as usize, w);
-        i += 1;
+    for s in word.letters {
+        act_on(word.group, *s as usize, w);
     }
 }
 
-// 1, 2, 3 and so on, counted in a byte that begins at 1: as i does it would be made from i, and each entry narrowed
-// from 64 bits.
+// 1, 2, 3 and so on, counted in a byte that begins at 1: a count from 0, as the places have, would be made from them,
+// and each entry narrowed from 64 bits.
 fn set_identity(w: &mut [i8])
     requires { length w.old ≤ 127 }
     ensures { w.new ≡ identity (length w.old) }
 {
-    let mut i = 0;
-    let mut e: u8 = 1;
-    while i < w.len() {
-        w[i] = e as i8;
-        e += 1;
-        i += 1;
+    let mut next: u8 = 1;
+    for e in w.iter_mut() {
+        *e = next as i8;
+        next += 1;
     }
 }
 
 // The window of a word.
-pub(crate) fn show(kind: u8, n: usize, word: &[u8], w: &mut [i8])
-    requires ranked { Ranked (kind_of kind) n }
-    requires w_len { length w.old ≡ lanes (kind_of kind) n }
-    requires word_of { WordOf n word.now }
-    ensures { w.new ≡ window (kind_of kind) n word.now }
+pub(crate) fn show(word: Word, w: &mut [i8])
+    requires { length w.old ≡ lanes word.group.kind word.group.rank }
+    ensures { w.new ≡ window word.entry.group.kind word.entry.group.rank word.entry.letters.now }
 {
     set_identity(w);
-    apply(kind, n, word, w);
+    apply(word, w);
 }

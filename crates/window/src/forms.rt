@@ -1,37 +1,111 @@
-// The normal form of an accepted window, where the output has room for it.
+// Calls on what passed its checks: normal forms and windows, where the output has room for them. Check 14 is the only one.
 ghost use Rattle.std.specs.Prelude.{◌≡◌, ltb};
-ghost use Rattle.coxeter.specs.Kinds.{kind_of};
+ghost use Rattle.coxeter.specs.Windows.{window, product, inverse};
 ghost use Rattle.coxeter.specs.Length.{window_length};
-ghost use Rattle.coxeter.specs.Checks.{RankOf, WindowOf};
-ghost use Rattle.coxeter.specs.NormalForm.{normal_form};
+ghost use Rattle.coxeter.specs.NormalForm.{normal_form, word_normal_form};
+ghost use Rattle.coxeter.specs.answers.Answer.{as_answer};
 ghost use Rattle.coxeter.specs.Calls.{Yields, writes};
 
-use crate::Answer;
+use crate::Windows;
+use crate::action::show;
 use crate::length::length_of;
 use crate::normal::write_normal_form;
+use crate::product::{inverse_into, product_into};
+use crate::shown::{between, inverse_of, product_of, shown};
+use coxeter::{Refusal, Window, Word};
 
-// Check 14: whether `room` is less than the length of the normal form of an accepted window. No normal form has more
-// than n × n letters, so that the length is measured only if there is less room.
-fn lacks_room(kind: u8, rank: u8, w: &[i8], room: usize) -> bool
-    requires rank_of { RankOf kind rank }
-    requires window_of { WindowOf (kind_of kind) rank w.now }
-    ensures { result ≡ ltb room (window_length (kind_of kind) w.now) }
+// C14: whether `room` is less than the length of a window's normal form. No normal form has more than n × n letters, so
+// that the length is measured only if there is less room.
+pub fn lacks_room(w: Window, room: usize) -> bool
+    ensures { result ≡ ltb room (window_length w.entry.group.kind w.entry.entries.now) }
 {
-    let n = rank as usize;
+    let n = w.group.rank as usize;
     if n * n <= room {
         return false;
     }
-    room < length_of(kind, n, w)
+    room < length_of(w)
 }
 
-// Check 14, then the normal form of an accepted window to the front of `out`.
-pub(crate) fn write_checked(kind: u8, rank: u8, w: &[i8], out: &mut [u8]) -> Answer
-    requires rank_of { RankOf kind rank }
-    requires window_of { WindowOf (kind_of kind) rank w.now }
-    ensures { Yields (writes 0 (normal_form (kind_of kind) rank w.now) out.old) result out.new }
+// I5, C14: the normal form of a window, to the front of `out`.
+pub fn write_form(w: Window, out: &mut [u8]) -> Result<usize, Refusal>
+    ensures { Yields (writes 0 (normal_form w.entry.group.kind w.entry.group.rank w.entry.entries.now) out.old)
+        (as_answer result) out.new }
 {
-    if lacks_room(kind, rank, w, out.len()) {
-        return Answer::Refused(14);
+    if lacks_room(w, out.len()) {
+        return Err(Refusal::OutputTooShort);
     }
-    Answer::Length(write_normal_form(kind, rank, w, out))
+    Ok(write_normal_form(w, out))
+}
+
+// I6, C14: the normal form of what a word shows, to the front of `out`.
+pub fn write_form_of_word(word: Word, out: &mut [u8]) -> Result<usize, Refusal>
+    ensures { Yields (writes 0 (word_normal_form word.entry.group.kind word.entry.group.rank word.entry.letters.now) out.old)
+        (as_answer result) out.new }
+{
+    let mut work = [0i8; 64];
+    write_form(shown(word, &mut work), out)
+}
+
+// I34, C14: the normal form of the product of two windows, to the front of `out`.
+pub fn write_form_of_product(pair: Windows, out: &mut [u8]) -> Result<usize, Refusal>
+    ensures { Yields (writes 0 (normal_form pair.entry.group.kind pair.entry.group.rank (product pair.entry.first.now pair.entry.second.now))
+        out.old) (as_answer result) out.new }
+{
+    let mut work = [0i8; 64];
+    write_form(product_of(pair, &mut work), out)
+}
+
+// I34, C14: the normal form of a window's inverse, to the front of `out`.
+pub fn write_form_of_inverse(w: Window, out: &mut [u8]) -> Result<usize, Refusal>
+    ensures { Yields (writes 0 (normal_form w.entry.group.kind w.entry.group.rank (inverse w.entry.entries.now)) out.old)
+        (as_answer result) out.new }
+{
+    let mut work = [0i8; 64];
+    write_form(inverse_of(w, &mut work), out)
+}
+
+// I34, C14: the normal form of the window that leads from the first to the second, to the front of `out`.
+pub fn write_form_between(pair: Windows, out: &mut [u8]) -> Result<usize, Refusal>
+    ensures { Yields (writes 0 (normal_form pair.entry.group.kind pair.entry.group.rank
+        (product (inverse pair.entry.first.now) pair.entry.second.now)) out.old) (as_answer result) out.new }
+{
+    let mut work = [0i8; 64];
+    write_form(between(pair, &mut work), out)
+}
+
+// I4, C14: the window of a word, to the front of `out`.
+pub fn write_window(word: Word, out: &mut [i8]) -> Result<usize, Refusal>
+    ensures { Yields (writes 0 (window word.entry.group.kind word.entry.group.rank word.entry.letters.now) out.old)
+        (as_answer result) out.new }
+{
+    let m = word.group.lanes();
+    if out.len() < m {
+        return Err(Refusal::OutputTooShort);
+    }
+    show(word, &mut out[..m]);
+    Ok(m)
+}
+
+// I9, C14: the product of two windows, to the front of `out`.
+pub(crate) fn write_product(pair: Windows, out: &mut [i8]) -> Result<usize, Refusal>
+    ensures { Yields (writes 0 (product pair.entry.first.now pair.entry.second.now) out.old) (as_answer result) out.new }
+{
+    let m = pair.second.len();
+    if out.len() < m {
+        return Err(Refusal::OutputTooShort);
+    }
+    product_into(pair, out);
+    Ok(m)
+}
+
+// I10, C14: the inverse of a window, to the front of `out`.
+pub fn write_inverse(w: Window, out: &mut [i8]) -> Result<usize, Refusal>
+    ensures { Yields (writes 0 (inverse w.entry.entries.now) out.old) (as_answer result) out.new }
+{
+    let m = w.entries.len();
+    if out.len() < m {
+        return Err(Refusal::OutputTooShort);
+    }
+    inverse_into(w, out);
+    Ok(m)
 }

@@ -1,13 +1,12 @@
 // The length of a window, whole and as its three counts, in one pass over its entries.
-ghost use Rattle.std.specs.Prelude.{◌≡◌, ◌+◌, ◌-◌, ◌*◌, ◌/◌, ◌^◌, ◌≤◌, ◌<◌, length};
+ghost use Rattle.std.specs.Prelude.{◌≡◌, ◌+◌, ◌-◌, ◌*◌, ◌/◌, ◌^◌, ◌≤◌, ◌<◌, Ok};
 ghost use Rattle.std.specs.Int.Bits.{bit_or};
 ghost use Rattle.std.specs.Int.Count.{ones};
-ghost use Rattle.coxeter.specs.Kinds.{B, kind_of, lanes};
 ghost use Rattle.coxeter.specs.Length.{inversions, negative_sum_pairs, negatives, crossings, window_length};
-ghost use Rattle.coxeter.specs.Checks.{WindowOf};
 ghost use Rattle.coxeter.specs.Calls.{counted_of};
+ghost use Rattle.coxeter.specs.answers.Counted.{as_counted};
 
-use coxeter::Counted;
+use coxeter::{Kind, LengthCounts, Window};
 use refusals::{is_negative, size};
 
 // What a length is made of: the pairs of both sorts, the negative sum pairs among them, and the negative entries.
@@ -41,26 +40,22 @@ fn with_size(set: u64, s: u8) -> u64
 
 // One pass from the last entry to the first, with the set of the sizes behind. An entry makes one pair with each
 // entry behind, of one sort or the other, but with a larger one two if it is negative, and none if not. A negative
-// entry has a negative sum pair with each larger size. An accepted window of any kind is one of kind B.
-fn parts_of(w: &[i8]) -> Parts
-    requires w_len_bound { length w.now ≤ 64 }
-    requires window_of { WindowOf B (length w.now) w.now }
-    ensures { (result.pairs ≡ inversions w.now + negative_sum_pairs w.now)
-        × (result.negative_sum_pairs ≡ negative_sum_pairs w.now) × (result.negatives ≡ negatives w.now) }
+// entry has a negative sum pair with each larger size.
+fn parts_of(window: Window) -> Parts
+    ensures { (result.pairs ≡ inversions window.entry.entries.now + negative_sum_pairs window.entry.entries.now)
+        × (result.negative_sum_pairs ≡ negative_sum_pairs window.entry.entries.now)
+        × (result.negatives ≡ negatives window.entry.entries.now) }
 {
-    let m = w.len();
+    let m = window.entries.len();
     let mut behind: u64 = 0;
     let mut pairs = (m * m - m) / 2;
     let mut negative_sum_pairs: usize = 0;
     let mut negatives: usize = 0;
-    let mut i = m;
-    while 0 < i {
-        i -= 1;
-        let e = w[i];
-        let s = size(e);
+    for e in window.entries.iter().rev() {
+        let s = size(*e);
         let larger = larger_behind(m, behind, s);
         behind = with_size(behind, s);
-        if is_negative(e) {
+        if is_negative(*e) {
             pairs += larger;
             negative_sum_pairs += m - s as usize;
             negatives += 1;
@@ -69,44 +64,35 @@ fn parts_of(w: &[i8]) -> Parts
         }
     }
     Parts {
-        pairs: pairs,
-        negative_sum_pairs: negative_sum_pairs,
-        negatives: negatives,
+        pairs,
+        negative_sum_pairs,
+        negatives,
     }
 }
 
-// The length of an accepted window as its three counts. In kind A no entry is negative, so that all pairs are
-// inversions.
-pub(crate) fn crossings_of(kind: u8, n: usize, w: &[i8]) -> Counted
-    requires n_bound { lanes (kind_of kind) n ≤ 64 }
-    requires window_of { WindowOf (kind_of kind) n w.now }
-    ensures { result ≡ counted_of 0 (crossings (kind_of kind) w.now) }
+// The length of a window as its three counts. In kind A no entry is negative, so that all pairs are inversions.
+pub(crate) fn crossings_of(window: Window) -> LengthCounts
+    ensures { as_counted (Ok result) ≡ counted_of 0 (crossings window.entry.group.kind window.entry.entries.now) }
 {
-    let parts = parts_of(w);
-    let inversions = parts.pairs - parts.negative_sum_pairs;
-    if kind == 2 {
-        return Counted::Crossings {
-            inversions: inversions,
-            negative_sum_pairs: parts.negative_sum_pairs,
-            negatives: parts.negatives,
-        };
-    }
-    Counted::Crossings {
-        inversions: inversions,
+    let parts = parts_of(window);
+    let negatives = match window.group.kind {
+        Kind::B => parts.negatives,
+        Kind::A | Kind::D => 0,
+    };
+    LengthCounts {
+        inversions: parts.pairs - parts.negative_sum_pairs,
         negative_sum_pairs: parts.negative_sum_pairs,
-        negatives: 0,
+        negatives,
     }
 }
 
-// The length of an accepted window.
-pub(crate) fn length_of(kind: u8, n: usize, w: &[i8]) -> usize
-    requires n_bound { lanes (kind_of kind) n ≤ 64 }
-    requires window_of { WindowOf (kind_of kind) n w.now }
-    ensures { result ≡ window_length (kind_of kind) w.now }
+// I12: the length of a window, from its entries alone.
+pub(crate) fn length_of(window: Window) -> usize
+    ensures { result ≡ window_length window.entry.group.kind window.entry.entries.now }
 {
-    let parts = parts_of(w);
-    if kind == 2 {
-        return parts.pairs + parts.negatives;
+    let parts = parts_of(window);
+    match window.group.kind {
+        Kind::B => parts.pairs + parts.negatives,
+        Kind::A | Kind::D => parts.pairs,
     }
-    parts.pairs
 }

@@ -1,10 +1,9 @@
-// The normal form of an accepted window (N10 of the specification), peeled off level by level: the index of the block
+// The normal form of a window (N10 of the specification), peeled off level by level: the index of the block
 // of level i is read off the place of i among the positions left, the rest is a normal form of the levels above, and
 // the block is written behind it.
 ghost use Rattle.std.specs.Prelude.{◌≡◌, ◌++◌, ℕ, ◌+◌, ◌-◌, ◌*◌, ◌^◌, ◌<◌, ◌≤◌, length, get_or};
 ghost use Rattle.std.proofs.lemmas.List.Edits.{sets};
-ghost use Rattle.coxeter.specs.Kinds.{kind_of};
-ghost use Rattle.coxeter.specs.Checks.{RankOf, WindowOf};
+ghost use Rattle.coxeter.specs.declared.Kind.TheVariants.{A};
 ghost use Rattle.coxeter.specs.Calls.{front};
 ghost use Rattle.coxeter.specs.NormalForm.{rise, fall, block, normal_form};
 ghost use Rattle.coxeter.proofs.Acceptance.{Ranked};
@@ -12,6 +11,7 @@ ghost use Rattle.coxeter.proofs.PeelingByPlaces.{place_of, PlacesOf, Place, last
 ghost use Rattle.coxeter.proofs.PeelingByPlaces.{index_at, left_at, odd_at, peeled_word};
 
 use crate::length::larger_behind;
+use coxeter::{Kind, Window};
 use refusals::{is_negative, size};
 
 // Writes the letters from a up to b from the place `at` on and returns the place after them.
@@ -20,11 +20,9 @@ fn write_up(out: &mut [u8], at: usize, a: usize, b: usize) -> usize
     ensures { (result ≡ at + length (rise a b)) × (out.new ≡ sets out.old at (rise a b)) }
 {
     let mut r = at;
-    let mut x = a;
-    while x <= b {
+    for x in a..b + 1 {
         out[r] = x as u8;
         r += 1;
-        x += 1;
     }
     r
 }
@@ -35,15 +33,13 @@ fn write_down(out: &mut [u8], at: usize, b: usize, a: usize) -> usize
     requires { (b < 255) × (a < 256) × (at + length (fall b a) ≤ length out.old) }
     ensures { (result ≡ at + length (fall b a)) × (out.new ≡ sets out.old at (fall b a)) }
 {
-    let mut r = at;
-    let least = a as u8;
+    let next = at + (b + 1).saturating_sub(a);
     let mut above = (b + 1) as u8;
-    while least < above {
+    for letter in out[at..next].iter_mut() {
         above -= 1;
-        out[r] = above;
-        r += 1;
+        *letter = above;
     }
-    r
+    next
 }
 
 // Where a block turns: its way up ends with `top`, and its way down starts with `high`.
@@ -54,29 +50,28 @@ struct Turn {
 }
 
 // The turn of the blocks of B and D. In D the way down starts with n.
-fn turn_of(kind: u8, n: usize) -> Turn
-    requires { Ranked (kind_of kind) n × (kind ≡ 1 → ⊥) }
+fn turn_of(kind: Kind, n: usize) -> Turn
+    requires { Ranked kind n × (kind ≡ A → ⊥) }
     ensures { (result.top < 256) × (result.high < 255)
-        × ((i j : ℕ) → n ≤ j → block (kind_of kind) n i j ≡ rise i result.top ++ fall result.high (2 * n - j)) }
+        × ((i j : ℕ) → n ≤ j → block kind n i j ≡ rise i result.top ++ fall result.high (2 * n - j)) }
 {
-    if kind == 2 {
-        return Turn {
+    match kind {
+        Kind::B => Turn {
             top: n,
             high: n - 1,
-        };
-    }
-    Turn {
-        top: n - 2,
-        high: n,
+        },
+        Kind::A | Kind::D => Turn {
+            top: n - 2,
+            high: n,
+        },
     }
 }
 
 // A block of B or D that turns: both its ways.
-fn write_turned(kind: u8, n: usize, i: usize, j: usize, out: &mut [u8], at: usize) -> usize
-    requires ranked { Ranked (kind_of kind) n × (kind ≡ 1 → ⊥) × (n ≤ j) × (j ≤ 2 * n) }
-    requires j_in_bounds { at + length (block (kind_of kind) n i j) ≤ length out.old }
-    ensures { (result ≡ at + length (block (kind_of kind) n i j))
-        × (out.new ≡ sets out.old at (block (kind_of kind) n i j)) }
+fn write_turned(kind: Kind, n: usize, i: usize, j: usize, out: &mut [u8], at: usize) -> usize
+    requires ranked { Ranked kind n × (kind ≡ A → ⊥) × (n ≤ j) × (j ≤ 2 * n) }
+    requires j_in_bounds { at + length (block kind n i j) ≤ length out.old }
+    ensures { (result ≡ at + length (block kind n i j)) × (out.new ≡ sets out.old at (block kind n i j)) }
 {
     let turn = turn_of(kind, n);
     let next = write_up(out, at, i, turn.top);
@@ -85,23 +80,15 @@ fn write_turned(kind: u8, n: usize, i: usize, j: usize, out: &mut [u8], at: usiz
 
 // N4 to N8: writes the block [i,j] from the place `at` on and returns the place after it. Before the turn the block goes
 // up only. The windows have m entries: in B and D that is the rank, and in A every j is below it.
-fn write_block(kind: u8, m: usize, i: usize, j: usize, out: &mut [u8], at: usize) -> usize
-    requires ranked { Ranked (kind_of kind) m × (j ≤ 2 * m) × (kind ≡ 1 → j < m) }
-    requires j_in_bounds { at + length (block (kind_of kind) m i j) ≤ length out.old }
-    ensures { (result ≡ at + length (block (kind_of kind) m i j))
-        × (out.new ≡ sets out.old at (block (kind_of kind) m i j)) }
+fn write_block(kind: Kind, m: usize, i: usize, j: usize, out: &mut [u8], at: usize) -> usize
+    requires ranked { Ranked kind m × (j ≤ 2 * m) × (kind ≡ A → j < m) }
+    requires j_in_bounds { at + length (block kind m i j) ≤ length out.old }
+    ensures { (result ≡ at + length (block kind m i j)) × (out.new ≡ sets out.old at (block kind m i j)) }
 {
     if j < m {
         return write_up(out, at, i, j);
     }
     write_turned(kind, m, i, j, out, at)
-}
-
-// Places of entries, with room for every size.
-fn places_64() -> [u8; 64]
-    ensures { length result ≡ 64 }
-{
-    [0u8; 64]
 }
 
 // The place of an entry: its position p, and 128 more if it is negative.
@@ -115,19 +102,13 @@ fn place_of(e: i8, p: u8) -> u8
     p
 }
 
-// The places of the entries of an accepted window, each stored at the entry's size.
-fn set_places(kind: u8, rank: u8, w: &[i8], places: &mut [u8; 64])
-    requires rank_of { RankOf kind rank }
-    requires window_of { WindowOf (kind_of kind) rank w.now }
-    requires places_len { length places.old ≡ 64 }
-    ensures { PlacesOf w.now places.new }
+// The places of the entries of a window, each stored at the entry's size.
+fn set_places(window: Window, places: &mut [u8; 64])
+    ensures { PlacesOf window.entry.entries.now places.new }
 {
-    let mut i = 0;
-    while i < w.len() {
-        let e = w[i];
-        let s = (size(e) as usize) - 1;
-        i += 1;
-        places[s] = place_of(e, i as u8);
+    for (i, e) in window.entries.iter().enumerate() {
+        let s = (size(*e) as usize) - 1;
+        places[s] = place_of(*e, (i + 1) as u8);
     }
 }
 
@@ -150,21 +131,21 @@ fn without(left: u64, p: u8) -> u64
 
 // Whether the entry of a level has changed its sign: in D each negative entry that is taken out changes the sign of the
 // last entry left, which has none behind it.
-fn has_changed_sign(kind: u8, behind: usize, odd: bool) -> bool
-    ensures { result ≡ sign_changed (kind_of kind) behind odd }
+fn has_changed_sign(kind: Kind, behind: usize, odd: bool) -> bool
+    ensures { result ≡ sign_changed kind behind odd }
 {
     match kind {
-        1 | 2 => false,
-        _ => odd & (behind == 0),
+        Kind::A | Kind::B => false,
+        Kind::D => odd & (behind == 0),
     }
 }
 
 // N10: the level whose entry stands at `place`, in windows of m entries. The lower entries stand still in front, so the
 // entry is at position m - behind of what is left, and its index is one less, or m + behind if it is negative there.
 // `behind` counts the positions left from p + 1 on, which are those from p on of the set that is moved down by one.
-fn level_of(kind: u8, m: usize, place: u8, left: u64, odd: bool) -> Level
-    requires { (m ≤ 64) × (left < 2 ^ m) × Place (kind_of kind) m place }
-    ensures { (result.index ≡ index_at (kind_of kind) m place left odd) × (result.left ≡ left_at place left) × (result.odd ≡ odd_at place odd) }
+fn level_of(kind: Kind, m: usize, place: u8, left: u64, odd: bool) -> Level
+    requires { (m ≤ 64) × (left < 2 ^ m) × Place kind m place }
+    ensures { (result.index ≡ index_at kind m place left odd) × (result.left ≡ left_at place left) × (result.odd ≡ odd_at place odd) }
 {
     if 128 <= place {
         let p = place - 128;
@@ -200,14 +181,14 @@ fn level_of(kind: u8, m: usize, place: u8, left: u64, odd: bool) -> Level
 }
 
 // The last level of windows of m entries.
-fn last_level(kind: u8, m: usize) -> usize
+fn last_level(kind: Kind, m: usize) -> usize
     requires { 1 ≤ m }
-    ensures { result ≡ last_level (kind_of kind) m }
+    ensures { result ≡ last_level kind m }
 {
-    if kind == 2 {
-        return m;
+    match kind {
+        Kind::B => m,
+        Kind::A | Kind::D => m - 1,
     }
-    m - 1
 }
 
 // The levels from i on, written to the front of `out`: the block of level i is peeled off, the rest is a normal form
@@ -215,7 +196,7 @@ fn last_level(kind: u8, m: usize) -> usize
 // the positions left, and `odd` says whether an odd number of negative entries were taken out. The number of levels left
 // falls at each call.
 fn peel(
-    kind: u8,
+    kind: Kind,
     m: usize,
     i: usize,
     places: &[u8; 64],
@@ -223,11 +204,11 @@ fn peel(
     odd: bool,
     out: &mut [u8],
 ) -> usize
-    requires ranked { Ranked (kind_of kind) m × (1 ≤ i) × (i ≤ last_level (kind_of kind) m) × (left < 2 ^ m) }
-    requires by_index { (s : ℕ) → s < m → Place (kind_of kind) m (get_or places.now s 0) }
-    requires odd_in_bounds { length (peeled_word (kind_of kind) m places.now i left odd) ≤ length out.old }
-    ensures { (result ≡ length (peeled_word (kind_of kind) m places.now i left odd))
-        × (out.new ≡ sets out.old 0 (peeled_word (kind_of kind) m places.now i left odd)) }
+    requires ranked { Ranked kind m × (1 ≤ i) × (i ≤ last_level kind m) × (left < 2 ^ m) }
+    requires by_index { (s : ℕ) → s < m → Place kind m (get_or places.now s 0) }
+    requires odd_in_bounds { length (peeled_word kind m places.now i left odd) ≤ length out.old }
+    ensures { (result ≡ length (peeled_word kind m places.now i left odd))
+        × (out.new ≡ sets out.old 0 (peeled_word kind m places.now i left odd)) }
 {
     let level = level_of(kind, m, places[i - 1], left, odd);
     let mut at = 0;
@@ -245,16 +226,15 @@ fn all_positions(m: usize) -> u64
     18446744073709551615u64 >> (64 - m)
 }
 
-// Writes the normal form of an accepted window to the front of `out` and returns its length.
-pub(crate) fn write_normal_form(kind: u8, rank: u8, w: &[i8], out: &mut [u8]) -> usize
-    requires rank_of { RankOf kind rank }
-    requires window_of { WindowOf (kind_of kind) rank w.now }
-    requires w_in_bounds { length (normal_form (kind_of kind) rank w.now) ≤ length out.old }
-    ensures { (result ≡ length (normal_form (kind_of kind) rank w.now))
-        × (out.new ≡ front (normal_form (kind_of kind) rank w.now) out.old) }
+// Writes the normal form of a window to the front of `out` and returns its length.
+pub(crate) fn write_normal_form(window: Window, out: &mut [u8]) -> usize
+    requires { length (normal_form window.group.kind window.group.rank window.entries.now) ≤ length out.old }
+    ensures { (result ≡ length (normal_form window.entry.group.kind window.entry.group.rank window.entry.entries.now))
+        × (out.new ≡ front (normal_form window.entry.group.kind window.entry.group.rank window.entry.entries.now) out.old) }
 {
-    let m = w.len();
-    let mut places = places_64();
-    set_places(kind, rank, w, &mut places);
+    let kind = window.group.kind;
+    let m = window.entries.len();
+    let mut places = [0u8; 64];
+    set_places(window, &mut places);
     peel(kind, m, 1, &places, all_positions(m), false, out)
 }

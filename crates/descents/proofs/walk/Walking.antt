@@ -18,7 +18,8 @@ use lib.Signed.{mag}
 use mir.Syntax.{w8}
 use mir.Val.{to_z, of_z}
 use borrow.Author.Tests.{eq-eqb, ne_eqb}
-use Rattle.coxeter.specs.Kinds.{Kind, pick}
+use Rattle.coxeter.specs.declared.Kind.{Kind}
+use Rattle.coxeter.specs.Kinds.{pick}
 use Rattle.coxeter.specs.Windows.{act, identity}
 use Rattle.coxeter.specs.Checks.{wrong_letter, WindowOf}
 use Rattle.coxeter.specs.Calls.{front, same_window}

@@ -10,15 +10,15 @@ use native.Mathlib.Numerals.{add-one}
 use native.Mathlib.Omega.{arith}
 use lib.ListN.{length, take, length-append}
 use lib.Seq.{sets, length-sets}
-use Rattle.coxeter.specs.declared.Answer.TheVariants.{Length, Refused}
+use Rattle.coxeter.specs.answers.Answer.{Length, Refused}
 use Rattle.coxeter.specs.Calls.{Yields, writes}
 use Rattle.coxeter.proofs.Lists.{Stored, sets-append}
 use Rattle.coxeter.proofs.Outcomes.{writes_short, writes-written}
 use Rattle.coxeter.proofs.FrontLaws.{sets-front, take-front}
 use Rattle.book_format.specs.declared.Edition.{Edition}
-use Rattle.book_format.specs.declared.Opened.{Opened}
-use Rattle.book_format.specs.declared.Opened.TheVariants as opened
-use Rattle.book_format.specs.declared.Preset.{Preset}
+use Rattle.book_format.specs.answers.Opened.{Opened}
+use Rattle.book_format.specs.answers.Opened as opened
+use Rattle.book_format.specs.answers.Preset.{Preset}
 use Rattle.book_format.specs.Calls.{checked_book, checked_preset}
 use Rattle.listing_text.specs.Text.{decimal, refused_text, book_text, presets_text, refused, count_line, refused_book_line, line_by, line_of}
 use Rattle.listing_text.specs.Calls.{line_count_by, line_count, first_line, line, lines, fitting, Piecing, next_piece}

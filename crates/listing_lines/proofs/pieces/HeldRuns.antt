@@ -7,7 +7,7 @@ use native.Mathlib.Omega.{arith}
 use lib.ListN.{get_or, get_or-map}
 use Rattle.coxeter.specs.Kinds.{up}
 use Rattle.book_format.specs.declared.Edition.{Edition}
-use Rattle.book_format.specs.declared.Preset.{Preset}
+use Rattle.book_format.specs.answers.Preset.{Preset}
 use Rattle.book_format.specs.declared.Run.{Run}
 use Rattle.book_format.specs.declared.Slot.{Slot}
 use Rattle.book_format.specs.Calls.{checked_preset}

@@ -12,8 +12,8 @@ use Rattle.coxeter.specs.Kinds.{kind_of}
 use Rattle.coxeter.specs.Windows.{window}
 use Rattle.coxeter.specs.NormalForm.{word_normal_form}
 use Rattle.coxeter.proofs.Lists.{Stored}
-use Rattle.book_format.specs.declared.Preset.{Preset}
-use Rattle.book_format.specs.declared.Preset.TheVariants as preset
+use Rattle.book_format.specs.answers.Preset.{Preset}
+use Rattle.book_format.specs.answers.Preset as preset
 use Rattle.listing_text.specs.Text.{preset_line, refused_line, word_line, line_by}
 use Rattle.listing_text.proofs.Answered.{refusal_of}
 

@@ -12,7 +12,8 @@ use lib.Dec.{eqb, ltb, leb}
 use lib.IntN.{ℤ, pos, nat_abs}
 use lib.ListN.{length, get_or, take, drop, drop_of_length-le}
 use borrow.Author.Tests.{eq-eqb, ne_eqb, lt-ltb, le-ltb, le-leb, lt-leb}
-use Rattle.coxeter.specs.Kinds.{Kind, pick, lanes}
+use Rattle.coxeter.specs.declared.Kind.{Kind}
+use Rattle.coxeter.specs.Kinds.{pick, lanes}
 use Rattle.coxeter.specs.Length.{negative}
 use Rattle.coxeter.specs.Checks.{wrong_kind, wrong_letter, wrong_at, wrong_entry, has_size, negative_in_A}
 use Rattle.coxeter.specs.Checks.{odd_negatives, wrong_lanes, window_refusal}
@@ -71,11 +72,11 @@ reaches_none n s u = elim (ℕ_discrete n 0) [
 ]
 
 pub wrong_letter_end : (n : ℕ) (u : List ℕ) (i h : ℕ) → length u ≤ i → (leb n 0 || wrong_letter n u) ≡ (leb n h || wrong_letter n (drop i u))
-    → (ltb 0 (length u) && leb n h) ≡ wrong_letter n u
+    → (not (eqb (length u) 0) && leb n h) ≡ wrong_letter n u
 unfolding wrong_letter
 wrong_letter_end n [] i h l e = refl
 wrong_letter_end n (s ∷ u) i h l e =
-    rw (lt-ltb 0 (length (s ∷ u)) (omega arith)) (sym (or-false (leb n h)) ∙ sym (rw (drop_of_length-le (s ∷ u) l) at e) ∙ reaches_none n s u)
+    rw (ne_eqb (length (s ∷ u)) 0 (omega arith)) (sym (or-false (leb n h)) ∙ sym (rw (drop_of_length-le (s ∷ u) l) at e) ∙ reaches_none n s u)
 
 -- ---- entries
 

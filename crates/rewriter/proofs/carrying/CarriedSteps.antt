@@ -9,7 +9,7 @@ use Prim.Native.Nat.{ℕ, suc, ◌+◌}
 use native.Mathlib.Omega.{arith}
 use lib.ListN.{length, take, set, length-set}
 use lib.Seq.{take-length}
-use Rattle.coxeter.specs.Kinds.{Kind}
+use Rattle.coxeter.specs.declared.Kind.{Kind}
 use Rattle.traces.specs.Traces.{Redex, lowest_redex}
 use Rattle.traces.proofs.Traces.{after}
 use Rattle.traces.proofs.LeastWords.{Normal}

@@ -10,7 +10,7 @@ use native.Mathlib.Omega.{arith}
 use lib.ListN.{length, get_or, drop, set, length-set}
 use lib.Seq.{set_split, drop-cons, take-set-le, drop-set-lt, get_or-set_same}
 use borrow.Author.Tests.{le-ltb}
-use Rattle.coxeter.specs.Kinds.{Kind}
+use Rattle.coxeter.specs.declared.Kind.{Kind}
 use Rattle.coxeter.specs.Checks.{too_long, word_refusal, WordOf}
 use Rattle.coxeter.specs.NormalForm.{levels}
 use Rattle.coxeter.proofs.LetterLaws.{letter_at}

@@ -12,7 +12,8 @@ use lib.ListN.{length, get_or, take, drop, set, drop_of_length-le}
 use lib.Seq.{take-suc-set, take_all}
 use mir.Syntax.{w8}
 use mir.Val.{to_z}
-use Rattle.coxeter.specs.Kinds.{Kind, lanes, up}
+use Rattle.coxeter.specs.declared.Kind.{Kind}
+use Rattle.coxeter.specs.Kinds.{lanes, up}
 use Rattle.coxeter.specs.Windows.{act, window_from, identity, window}
 use Rattle.coxeter.specs.Checks.{WindowOf}
 use Rattle.coxeter.proofs.Basics.{up-append}
@@ -41,10 +42,10 @@ identity_next : (i : ℕ) → identity (i + 1) ≡ identity i ++ (pos (i + 1) �
 unfolding identity up
 identity_next i = let e : 1 + i ≡ i + 1 = omega arith in rw (up-append 1 i 1, map-append) (rw e)
 
-pub take-identity_next : (i e : ℕ) (w : List ℤ) → i < length w → length w ≤ 127 → take i w ≡ identity i → e ≡ i + 1
-    → take (i + 1) (set w i (to_z w8 e)) ≡ identity (i + 1)
-take-identity_next i e w h l t q =
-    rw (q, cast_back (i + 1) (omega arith), identity_next i, ← t) (rw (add-one i) (take-suc-set w i (pos (suc i)) h))
+pub take-identity_next : (i : ℕ) (w : List ℤ) → i < length w → length w ≤ 127 → take i w ≡ identity i
+    → take (i + 1) (set w i (to_z w8 (i + 1))) ≡ identity (i + 1)
+take-identity_next i w h l t =
+    rw (cast_back (i + 1) (omega arith), identity_next i, ← t) (rw (add-one i) (take-suc-set w i (pos (suc i)) h))
 
 pub take-identity_end : (i : ℕ) {m : ℕ} {w : List ℤ} → length w ≤ i → i ≤ length w → length w ≡ m → take i w ≡ identity i → w ≡ identity m
 take-identity_end i {w} h l e t = sym (take_all i w h) ∙ t ∙ ap identity (omega arith)

@@ -1,21 +1,17 @@
--- `crossings_of_window` refuses in the order of CO2, or counts the window's pairs and negative entries.
+-- `crossings_of_window` hands on the refusal of its checks, or counts the pairs and the negative entries.
 -- Assumes nothing.
 use mathlib.Core.Path.{refl, ◌∙◌}
-use Rattle.coxeter.proofs.Acceptance.{two_accepted, lanes_le}
-use Rattle.coxeter.proofs.Outcomes.{counted_refused, counted_crossings}
 use Rattle.coxeter.specs.Calls.{crossings_of_window}
+use Rattle.coxeter.proofs.Outcomes.{counted_crossings}
+use Rattle.window.proofs.HandedOn.{counted_handed_on}
 use Rattle.window.proofs.crossings_of_window.Goals as goal
 
-pub returns-then-refusal-ne0 : goal.returns-then-refusal-ne0
+pub returns-in_err-window : goal.returns-in_err-window
 unfolding crossings_of_window
-returns-then-refusal-ne0 c = counted_refused _ c.ranked_window_refusal-refusal.ensures c.if-refusal-ne0.true
-
-pub crossings_of-requires : goal.crossings_of-requires
-crossings_of-requires c =
-    let a = two_accepted _ _ _ c.ranked_window_refusal-refusal.ensures c.if-refusal-ne0.false in
-    record { n_bound = lanes_le _ _ _ a.0 refl; window_of = a.1 }
+returns-in_err-window c = counted_handed_on _ _ _ _ c.from_residual.ensures c.in_err-window.ensures.refusal
 
 pub returns : goal.returns
 unfolding crossings_of_window
 returns c =
-    c.crossings_of.ensures ∙ counted_crossings _ c.ranked_window_refusal-refusal.ensures c.if-refusal-ne0.false
+    let h = c.in_ok-window.ensures.window in
+    (rw (h.0, h.2) at c.crossings_of.ensures) ∙ counted_crossings _ c.in_ok-window.ensures.refusal refl

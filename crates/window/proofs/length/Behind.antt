@@ -9,7 +9,7 @@ use lib.Bits.{bit_or}
 use lib.Count.{ones}
 use lib.IntN.{ℤ, pos, nat_abs}
 use lib.ListN.{length, get_or, drop}
-use Rattle.coxeter.specs.Kinds.{B}
+use Rattle.coxeter.specs.declared.Kind.TheVariants.{B}
 use Rattle.coxeter.specs.Checks.{WindowOf}
 use Rattle.coxeter.proofs.Lists.{drop_next}
 use Rattle.coxeter.proofs.Levels.{Level, accepted_of_refusal}

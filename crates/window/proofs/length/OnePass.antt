@@ -13,7 +13,8 @@ use lib.Bits.{bit_or}
 use lib.Count.{ones}
 use lib.IntN.{ℤ, pos, nat_abs}
 use lib.ListN.{length, length-map, length-drop, get_or, drop, drop_of_length-le}
-use Rattle.coxeter.specs.Kinds.{B, pick}
+use Rattle.coxeter.specs.declared.Kind.TheVariants.{B}
+use Rattle.coxeter.specs.Kinds.{pick}
 use Rattle.coxeter.specs.Length.{negative, one, inversions, negative_sum_pairs, negatives}
 use Rattle.coxeter.specs.Checks.{WindowOf}
 use Rattle.coxeter.proofs.Levels.{Between, Distinct, accepted_of_refusal}

@@ -4,23 +4,25 @@
 -- Assumes nothing.
 use mathlib.Core.Path.{◌≡◌, refl, sym, ap, ◌∙◌}
 use mathlib.Core.Bool.{Bool, true, false}
+use mathlib.Core.Logic.{◌⊎◌, ⊎_elim}
 use mathlib.Core.List.{List, [], ◌∷◌, map}
 use Prim.Native.Nat.{ℕ, zero, suc, ◌+◌, ◌-◌, ◌*◌, ◌≤◌}
 use native.Mathlib.Nat.{add-zero}
-use native.Mathlib.Decide.{ℕ_discrete}
 use native.Mathlib.Omega.{arith}
 use lib.Dec.{ltb}
 use lib.IntN.{ℤ, pos, nat_abs}
 use lib.ListN.{length, length-map, drop}
-use Rattle.coxeter.specs.Kinds.{Kind, A, B, D, pick, kind_of, lanes}
+use Rattle.coxeter.specs.declared.Kind.{Kind}
+use Rattle.coxeter.specs.declared.Kind.TheVariants.{A, B, D}
+use Rattle.coxeter.specs.Kinds.{pick, lanes}
 use Rattle.coxeter.specs.Length.{later, negative, one, later_than, inversions, negative_sum_pairs, negatives, crossings, window_length}
 use Rattle.coxeter.specs.Checks.{WindowOf}
-use Rattle.coxeter.proofs.KindLaws.{lanes_le_add_one, kind_of-one, kind_of-two, kind_of_three}
+use Rattle.coxeter.proofs.KindLaws.{lanes_le_add_one}
 use Rattle.coxeter.proofs.Levels.{Between, Distinct, accepted_of_refusal, refusal_of_accepted}
 use Rattle.coxeter.proofs.PairWeights.{weight, weights, pair_weights, sign_weight, pair_weights_le}
 use Rattle.coxeter.proofs.PairWeights.{inversions_add_negative_sum_pairs, length_by_weights, negative_sum_pairs_of_negatives_zero}
 use Rattle.coxeter.specs.Calls.{counted_of}
-use Rattle.coxeter.specs.declared.Counted.TheVariants as counted
+use Rattle.coxeter.specs.answers.Counted as counted
 use Rattle.window.proofs.Squares.{square_le, square_le_4096}
 
 -- ---- one entry against those behind it
@@ -106,41 +108,39 @@ window_length_is_add k n w h =
     length_by_weights k n w (accepted_of_refusal k n w h)
     ∙ ap (λ (x : ℕ). x + sign_weight k w) (sym (both_pairs_is_pair_weights w (refusal-B k n w h)))
 
-pub window_length-two : (k n : ℕ) (w : List ℤ) → WindowOf (kind_of k) n w → k ≡ 2
-    → window_length (kind_of k) w ≡ inversions w + negative_sum_pairs w + negatives w
+pub window_length-B : (k : Kind) (n : ℕ) (w : List ℤ) → WindowOf k n w → k ≡ B → window_length k w ≡ inversions w + negative_sum_pairs w + negatives w
 unfolding both_pairs sign_weight
-window_length-two k n w h e = rw (kind_of-two k e) (window_length_is_add B n w (rw (kind_of-two k e) at h))
+window_length-B k n w h e = rw e (window_length_is_add B n w (rw e at h))
 
-pub window_length_else : (k n : ℕ) (w : List ℤ) → WindowOf (kind_of k) n w → (k ≡ 2 → ⊥)
-    → window_length (kind_of k) w ≡ inversions w + negative_sum_pairs w
+pub window_length_else : (k : Kind) (n : ℕ) (w : List ℤ) → WindowOf k n w → (k ≡ A) ⊎ (k ≡ D) → window_length k w ≡ inversions w + negative_sum_pairs w
 unfolding both_pairs sign_weight
 window_length_else k n w h d =
-    elim (ℕ_discrete k 1) [
-      | yes e ↦ rw (kind_of-one k e) (window_length_is_add A n w (rw (kind_of-one k e) at h) ∙ add-zero _)
-      | no f ↦ rw (kind_of_three k f d) (window_length_is_add D n w (rw (kind_of_three k f d) at h) ∙ add-zero _)
-    ]
+    ⊎_elim (λ e. rw e (window_length_is_add A n w (rw e at h) ∙ add-zero _)) (λ e. rw e (window_length_is_add D n w (rw e at h) ∙ add-zero _)) d
 
 -- ---- crossings
 
 -- p are the pairs of both sorts, s the negative sum pairs, t the negative entries
-module _ (k n : ℕ) (w : List ℤ) (h : WindowOf (kind_of k) n w) {p s : ℕ} (e : p ≡ inversions w + negative_sum_pairs w)
+module _ (k : Kind) (n : ℕ) (w : List ℤ) (h : WindowOf k n w) {p s : ℕ} (e : p ≡ inversions w + negative_sum_pairs w)
     (q : s ≡ negative_sum_pairs w) where
   first : p - s ≡ inversions w
   first = omega arith
 
-  pub counted_two : {t : ℕ} → k ≡ 2 → t ≡ negatives w → counted.Crossings (p - s) s t ≡ counted_of 0 (crossings (kind_of k) w)
+  pub counted-B : {t : ℕ} → k ≡ B → t ≡ negatives w → counted.Crossings (p - s) s t ≡ counted_of 0 (crossings k w)
   unfolding counted_of crossings
-  counted_two b z = rw (kind_of-two k b, first, q, z)
+  counted-B b z = rw (b, first, q, z)
 
-  none_in_A : kind_of k ≡ A → negative_sum_pairs w ≡ 0
+  none_in_A : k ≡ A → negative_sum_pairs w ≡ 0
   none_in_A a =
       let f = accepted_of_refusal A n w (rw a at h) in
       negative_sum_pairs_of_negatives_zero (1 + length w) w f.level.between f.level.distinct f.signs
 
-  pub counted_else : (k ≡ 2 → ⊥) → counted.Crossings (p - s) s 0 ≡ counted_of 0 (crossings (kind_of k) w)
+  counted-A : {t : ℕ} → k ≡ A → t ≡ 0 → counted.Crossings (p - s) s t ≡ counted_of 0 (crossings k w)
   unfolding counted_of crossings
-  counted_else d =
-      elim (ℕ_discrete k 1) [
-        | yes b ↦ rw (kind_of-one k b, first, q, none_in_A (kind_of-one k b))
-        | no f ↦ rw (kind_of_three k f d, first, q)
-      ]
+  counted-A a z = rw (z, a, first, q, none_in_A a)
+
+  counted-D : {t : ℕ} → k ≡ D → t ≡ 0 → counted.Crossings (p - s) s t ≡ counted_of 0 (crossings k w)
+  unfolding counted_of crossings
+  counted-D d z = rw (z, d, first, q)
+
+  pub counted_else : {t : ℕ} → (k ≡ A) ⊎ (k ≡ D) → t ≡ 0 → counted.Crossings (p - s) s t ≡ counted_of 0 (crossings k w)
+  counted_else h z = ⊎_elim (λ a. counted-A a z) (λ d. counted-D d z) h

@@ -1,11 +1,17 @@
--- `length_of_window` is the total of what `crossings_of_window` counts, or the same refusal.
+-- `length_of_window` hands on the refusal of its checks, or measures the length.
 -- Assumes nothing.
-use mathlib.Core.Path.{sym, ap, ◌∙◌}
-use Rattle.coxeter.proofs.Totals.{totalled, totalled-window, crossings_of_window_small}
+use mathlib.Core.Path.{refl}
+use Rattle.coxeter.specs.Calls.{length_of_window}
+use Rattle.coxeter.proofs.Outcomes.{answer_length}
+use Rattle.window.proofs.HandedOn.{answer_handed_on}
 use Rattle.window.proofs.length_of_window.Goals as goal
 
-pub total_of-requires : goal.total_of-requires
-total_of-requires c x y z e = crossings_of_window_small _ _ _ x y z (sym c.crossings_of_window.ensures ∙ e)
+pub returns-in_err-window : goal.returns-in_err-window
+unfolding length_of_window
+returns-in_err-window c = answer_handed_on _ _ _ _ c.from_residual.ensures c.in_err-window.ensures.refusal
 
 pub returns : goal.returns
-returns c = c.total_of.ensures ∙ ap totalled c.crossings_of_window.ensures ∙ totalled-window _ _ _
+unfolding length_of_window
+returns c =
+    let h = c.in_ok-window.ensures.window in
+    answer_length _ 0 _ _ c.in_ok-window.ensures.refusal refl (rw (h.0, h.2) at c.length_of.ensures)

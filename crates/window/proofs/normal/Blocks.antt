@@ -2,21 +2,45 @@
 --
 -- Sections: letters up and down; blocks as runs.
 -- Assumes nothing.
-use mathlib.Core.Path.{◌≡◌, sym, ap, ◌∙◌}
+use mathlib.Core.Path.{◌≡◌, refl, sym, ap, ◌∙◌}
 use mathlib.Core.Logic.{◌⊎◌, ⊎_elim}
-use mathlib.Core.List.{List, [], ◌∷◌, ◌++◌, append-nil}
-use Prim.Native.Nat.{ℕ, suc, ◌+◌, ◌-◌, ◌*◌, ◌≤◌, ◌<◌}
+use mathlib.Core.List.{List, [], ◌∷◌, ◌++◌, append-nil, append_assoc}
+use Prim.Native.Nat.{ℕ, zero, suc, ◌+◌, ◌-◌, ◌*◌, ◌≤◌, ◌<◌}
 use native.Mathlib.Nat.{lt_of_not-le}
 use native.Mathlib.Decide.{dec_le}
 use native.Mathlib.Numerals.{add-one}
 use native.Mathlib.Omega.{arith}
+use lib.ListN.{length, length-drop, take, drop, set}
+use lib.Seq.{take-suc-set, take_all, length-take-le, drop-drop, sets, sets-eq}
+use borrow.Rule.Slice.PartMut.{put_mid}
 use borrow.Author.Tests.{le-leb, lt-leb, le-ltb}
-use Rattle.coxeter.specs.Kinds.{Kind, B, D, least}
-use Rattle.coxeter.specs.NormalForm.{rise, fall, block}
-use Rattle.coxeter.proofs.LetterRuns.{slide, rise-span, fall-slide, span_cons, span_nil, slide_cons, slide_nil}
-use Rattle.coxeter.proofs.Lists.{Stored, Storing, stored_of_storing, storing_all}
+use Rattle.coxeter.specs.declared.Kind.{Kind}
+use Rattle.coxeter.specs.declared.Kind.TheVariants.{B, D}
+use Rattle.coxeter.specs.Kinds.{least}
+use Rattle.coxeter.specs.NormalForm.{down, rise, fall, block}
+use Rattle.coxeter.proofs.LetterRuns.{slide, fall-slide, slide_cons, slide_nil}
+use Rattle.coxeter.proofs.LetterRuns.{rise-span, span_cons, span_nil}
+use Rattle.coxeter.proofs.Lists.{Stored, Storing, stored_of_storing}
 
 -- ---- letters up and down
+
+length_down : (b n : ℕ) → length (down b n) ≡ n
+unfolding down
+length_down b zero = refl
+length_down b (suc n) = ap (λ (x : ℕ). suc x) (length_down (b - 1) n)
+
+pub down-fall : (b a n : ℕ) → n ≡ b + 1 - a → down b n ≡ fall b a
+unfolding fall
+down-fall b a n e = ap (down b) (omega arith)
+
+pub length-fall : (b a : ℕ) → length (fall b a) ≡ b + 1 - a
+unfolding fall
+length-fall b a = length_down b (suc b - a) ∙ omega arith
+
+down_snoc : (b i : ℕ) → down b (suc i) ≡ down b i ++ ((b - i) ∷ [])
+unfolding down
+down_snoc b zero = let e : b - 0 ≡ b = omega arith in rw e
+down_snoc b (suc i) = let e : b - 1 - i ≡ b - suc i = omega arith in ap (λ (l : List ℕ). b ∷ l) (down_snoc (b - 1) i ∙ rw e)
 
 module _ {o : List ℕ} {at : ℕ} {u out : List ℕ} {r : ℕ} where
   pub storing_up : {x b : ℕ} → x ≤ b → Storing o at u out r (rise x b) → Storing o at u out r (x ∷ rise (x + 1) b)
@@ -25,16 +49,20 @@ module _ {o : List ℕ} {at : ℕ} {u out : List ℕ} {r : ℕ} where
   pub stored_up : {x b : ℕ} → b < x → Storing o at u out r (rise x b) → Stored o at u out r
   stored_up {x} {b} l h = stored_of_storing (rw (rise-span, span_nil x (suc b) l) at h)
 
-  pub storing_down : {y a : ℕ} → a < y → Storing o at u out r (slide y a) → Storing o at u out r ((y - 1) ∷ slide (y - 1) a)
-  storing_down {y} {a} l h =
-      let e : y ≡ suc (y - 1) = omega arith in
-      rw (ap (λ (z : ℕ). slide z a) e ∙ slide_cons (y - 1) a (omega arith)) at h
+-- one letter more at the end
+pub down_next : (b i : ℕ) {x : ℕ} (part : List ℕ) → i < length part → x ≡ b - i → take i part ≡ down b i → take (i + 1) (set part i x) ≡ down b (i + 1)
+down_next b i part l e h = rw (e, add-one i, down_snoc b i, ← h) (take-suc-set part i (b - i) l)
 
-  pub stored_down : {y a : ℕ} → y ≤ a → Storing o at u out r (slide y a) → Stored o at u out r
-  stored_down {y} {a} l h = stored_of_storing (rw (slide_nil y a l) at h)
+-- how long a part of `out` is that has room for n letters
+pub part_long : (out : List ℕ) (at k n : ℕ) → at + n ≤ length out → k ≡ n → length (take k (drop at out)) ≡ n
+part_long out at k n room e = rw e (length-take-le n (drop at out) (rw length-drop (omega arith)))
 
-pub storing_fall : (o : List ℕ) (at b a : ℕ) → Storing o at (fall b a) o at (slide (b + 1) a)
-storing_fall o at b a = rw (fall-slide, add-one) storing_all
+-- that part after the letters u were stored in it
+pub stored_in_part : (out part u : List ℕ) (at k i : ℕ) → at + length u ≤ length out → k ≡ length u → length part ≡ length u → length part ≤ i → take i part ≡ u
+    → put_mid at k out part ≡ sets out at u
+stored_in_part out part u at k i room size long full h =
+    let e : part ≡ u = sym (take_all i part full) ∙ h in
+    rw (e, size, drop-drop (length u) at out) (sym (sets-eq u out at room ∙ append_assoc (take at out) u (drop (at + length u) out)))
 
 -- ---- blocks as runs
 

@@ -14,7 +14,9 @@ use lib.Bits.{xor_lt}
 use lib.ListN.{length, length-append, get_or}
 use lib.Pow.{pow-lt}
 use lib.Seq.{sets, length-sets}
-use Rattle.coxeter.specs.Kinds.{Kind, A, pick}
+use Rattle.coxeter.specs.declared.Kind.{Kind}
+use Rattle.coxeter.specs.declared.Kind.TheVariants.{A}
+use Rattle.coxeter.specs.Kinds.{pick}
 use Rattle.coxeter.specs.NormalForm.{block}
 use Rattle.coxeter.proofs.Lists.{Stored, stored_append}
 use Rattle.coxeter.proofs.PeelingByPlaces.{is_negative, position, Place, last_level, sign_changed, index_behind, left_at, odd_at, behind_at}

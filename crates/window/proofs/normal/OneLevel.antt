@@ -12,7 +12,9 @@ use native.Mathlib.Omega.{arith}
 use lib.Count.{ones, ones-le}
 use lib.Pow.{shr_le, ones_split, ones_lt, high}
 use borrow.Author.Tests.{eqb-true, le-leb, lt-leb}
-use Rattle.coxeter.specs.Kinds.{Kind, A, B, D, pick, kind_of}
+use Rattle.coxeter.specs.declared.Kind.{Kind}
+use Rattle.coxeter.specs.declared.Kind.TheVariants.{A, B, D}
+use Rattle.coxeter.specs.Kinds.{pick, kind_of}
 use Rattle.coxeter.proofs.KindLaws.{kind_of-one, kind_of_three}
 use Rattle.coxeter.proofs.PeelingByPlaces.{is_negative, position, Place, last_level, without_position, sign_changed, index_behind, left_at, odd_at, behind_at, index_at}
 

@@ -17,7 +17,9 @@ use lib.ListN.{length, length-append, get_or}
 use lib.Pow.{shr-shr}
 use lib.Seq.{get_or-append_seam}
 use borrow.Author.Tests.{le-leb, lt-leb}
-use Rattle.coxeter.specs.Kinds.{Kind, A, B, D, pick, lanes}
+use Rattle.coxeter.specs.declared.Kind.{Kind}
+use Rattle.coxeter.specs.declared.Kind.TheVariants.{A, B, D}
+use Rattle.coxeter.specs.Kinds.{pick, lanes}
 use Rattle.coxeter.specs.Windows.{signed, place_from}
 use Rattle.coxeter.specs.Length.{negative, negatives, one}
 use Rattle.coxeter.specs.Checks.{has_size}

@@ -12,7 +12,9 @@ use native.Mathlib.Omega.{arith}
 use lib.IntN.{ℤ, pos, negsuc, neg_ℤ, nat_abs}
 use lib.ListN.{length, length-append}
 use borrow.Author.Tests.{ne_eqb}
-use Rattle.coxeter.specs.Kinds.{Kind, A, B, D, pick}
+use Rattle.coxeter.specs.declared.Kind.{Kind}
+use Rattle.coxeter.specs.declared.Kind.TheVariants.{A, B, D}
+use Rattle.coxeter.specs.Kinds.{pick}
 use Rattle.coxeter.specs.Windows.{from, negate_first}
 use Rattle.coxeter.specs.Length.{negative}
 use Rattle.coxeter.specs.NormalForm.{rest_of}

@@ -14,7 +14,7 @@ use lib.ListN.{length, get_or, set, length-set}
 use lib.Seq.{get_or-set_same, get_or-set_other}
 use lib.Signed.{mag}
 use borrow.Author.Tests.{eqb-false}
-use Rattle.coxeter.specs.Kinds.{Kind}
+use Rattle.coxeter.specs.declared.Kind.{Kind}
 use Rattle.coxeter.specs.Checks.{has_size, WindowOf}
 use Rattle.coxeter.proofs.Levels.{Distinct, accepted_of_refusal}
 use Rattle.coxeter.proofs.PeelingByPlaces.{place_of, PlacesOf}

@@ -1,9 +1,9 @@
--- Products, inverses and equality of windows, one entry at a time, in the form in which the code meets them.
+-- Products and inverses of windows, one entry at a time, in the form in which the code meets them.
 --
--- Sections: entries by size and sign; the product; the inverse; equality.
+-- Sections: entries by size and sign; the product; the inverse.
 -- Assumes nothing.
 use mathlib.Core.Path.{◌≡◌, refl, sym, ap, ◌∙◌}
-use mathlib.Core.Bool.{Bool, true, false, ◌&&◌, and-false, and-true}
+use mathlib.Core.Bool.{true, false}
 use mathlib.Core.List.{List, [], ◌∷◌}
 use Prim.Native.Nat.{ℕ, zero, suc, ◌+◌, ◌-◌, ◌≤◌, ◌<◌}
 use native.Mathlib.Numerals.{add-one, sub-one}
@@ -11,27 +11,26 @@ use native.Mathlib.Omega.{arith}
 use lib.IntN.{ℤ, pos, negsuc, neg_ℤ, nat_abs}
 use lib.Dec.{T}
 use lib.Signed.{mag, lt_z, non_neg}
-use lib.ListN.{length, get_or, take, drop, set, drop_of_length-le}
-use lib.Seq.{sets, length-take-le, get_or-take}
+use lib.ListN.{length, get_or, drop, set, drop_of_length-le}
+use lib.Seq.{sets}
 use mir.Syntax.{w8, w64}
-use mir.Val.{Fits, SFits, to_z, of_z}
-use borrow.Author.Tests.{ne_eqb}
-use Rattle.coxeter.specs.Kinds.{Kind, A, B, D, pick, kind_of}
+use mir.Val.{Fits, SFits}
+use Rattle.coxeter.specs.declared.Kind.{Kind}
+use Rattle.coxeter.specs.declared.Kind.TheVariants.{A, B, D}
+use Rattle.coxeter.specs.Kinds.{pick}
 use Rattle.coxeter.specs.Windows.{at, product, signed, inverse}
 use Rattle.coxeter.specs.Length.{negative}
 use Rattle.coxeter.specs.Checks.{WindowOf, negative_in_A}
-use Rattle.coxeter.specs.Calls.{front, same_entry, same_window}
+use Rattle.coxeter.specs.Calls.{front}
 use Rattle.coxeter.proofs.Lists.{drop_next}
 use Rattle.coxeter.proofs.Products.{length-product}
 use Rattle.coxeter.proofs.Inverses.{length-inverse}
-use Rattle.coxeter.proofs.KindLaws.{kind_of-one}
 use Rattle.coxeter.proofs.Sizes.{nat_abs-neg_ℤ, PositiveInA, positive_in_A_head, positive_in_A_tail}
 use Rattle.coxeter.proofs.Levels.{accepted_of_refusal}
 use Rattle.coxeter.proofs.Places.{between-get_or}
 use Rattle.window.proofs.length.Sums.{length_le_of_refusal}
 use Rattle.window.proofs.product.Scatter.{scatter, scatter-inverse}
 use Rattle.refusals.proofs.Bytes.{held, byte_back, element_back, negative_is_test, size_of_positive}
-use Rattle.coxeter.proofs.Order.{same_entry_refl}
 use Rattle.coxeter.proofs.FrontLaws.{sets-front, front_parts}
 
 -- ---- entries by size and sign
@@ -82,11 +81,11 @@ sign_at D n w i g l = refl
 -- ---- the product
 
 -- an entry of kind A as an index
-pub positive_index : (k : ℕ) (e : ℤ) → k ≡ 1 → negative_in_A (kind_of k) e ≡ false → SFits w8 e
+pub positive_index : (k : Kind) (e : ℤ) → k ≡ A → negative_in_A k e ≡ false → SFits w8 e
     → (negative e ≡ false) × T (non_neg (held e)) × Fits w64 (nat_abs (held e))
 unfolding negative_in_A
 positive_index k e q n f =
-    let s : negative e ≡ false = rw (kind_of-one k q) at n in
+    let s : negative e ≡ false = rw q at n in
     let p = size_of_positive e f (ap (λ (z : ℤ). lt_z z (pos 0)) (byte_back e f) ∙ negative_is_test e ∙ s) in
     (s, p.0, record { fits = omega (arith, p.1.fits) })
 
@@ -159,50 +158,3 @@ pub scatter-written : (k : Kind) (n : ℕ) (w out : List ℤ) → WindowOf k n w
     → scatter out 1 w ≡ front (inverse w) out
 scatter-written k n w out h l =
     scatter-inverse w out (accepted_of_refusal k n w h).level l ∙ front_parts (inverse w) out (length w) (inverse w) (length-inverse w) refl
-
--- ---- equality
-
-eq_of_bytes : (x y : ℤ) → mag x < 128 → mag y < 128 → of_z w8 x ≡ of_z w8 y → x ≡ y
-eq_of_bytes x y h g e = sym (element_back x h) ∙ ap (to_z w8) e ∙ element_back y g
-
-same_entry_of_eq : (x y : ℤ) → x ≡ y → same_entry x y ≡ true
-same_entry_of_eq x y e = rw e (same_entry_refl y)
-
-same_entry_of_ne : (x y : ℤ) → (x ≡ y → ⊥) → same_entry x y ≡ false
-unfolding same_entry
-same_entry_of_ne (pos a) (pos b) d = ne_eqb a b (λ e. d (ap pos e))
-same_entry_of_ne (pos a) (negsuc b) d = refl
-same_entry_of_ne (negsuc a) (pos b) d = refl
-same_entry_of_ne (negsuc a) (negsuc b) d = ne_eqb a b (λ e. d (ap negsuc e))
-
--- the entries from i on of two fronts of m entries
-abbrev pub same_from : ℕ → ℕ → List ℤ → List ℤ → Bool
-same_from m i a b = same_window (drop i (take m a)) (drop i (take m b))
-
-module _ (m i : ℕ) (a b : List ℤ) (fa : m ≤ length a) (fb : m ≤ length b) where
-  same_next : i < m → same_from m i a b ≡ (same_entry (get_or a i (pos 0)) (get_or b i (pos 0)) && same_from m (i + 1) a b)
-  unfolding same_window
-  same_next h =
-      let la : i < length (take m a) = rw (length-take-le m a fa) h in
-      let lb : i < length (take m b) = rw (length-take-le m b fb) h in
-      rw (drop_next (take m a) i (pos 0) la, drop_next (take m b) i (pos 0) lb, get_or-take m a i (pos 0) h, get_or-take m b i (pos 0) h)
-
-  -- `old` says whether the entries before i are equal, `new` those before i + 1; the entries are compared as bytes
-  pub same_differ : (old new : Bool) → i < m → (of_z w8 (get_or a i (pos 0)) ≡ of_z w8 (get_or b i (pos 0)) → ⊥) → new ≡ false
-      → (old && same_from m i a b) ≡ (new && same_from m (i + 1) a b)
-  same_differ old new h d e =
-      let f : get_or a i (pos 0) ≡ get_or b i (pos 0) → ⊥ = λ q. d (ap (of_z w8) q) in
-      rw (e, same_next h, same_entry_of_ne (get_or a i (pos 0)) (get_or b i (pos 0)) f) (and-false old)
-
-  pub same_agree : (old new : Bool) → i < m → mag (get_or a i (pos 0)) < 128 → mag (get_or b i (pos 0)) < 128
-      → of_z w8 (get_or a i (pos 0)) ≡ of_z w8 (get_or b i (pos 0)) → new ≡ old → (old && same_from m i a b) ≡ (new && same_from m (i + 1) a b)
-  same_agree old new h u v q e =
-      let f : get_or a i (pos 0) ≡ get_or b i (pos 0) = eq_of_bytes (get_or a i (pos 0)) (get_or b i (pos 0)) u v q in
-      rw (e, same_next h, same_entry_of_eq (get_or a i (pos 0)) (get_or b i (pos 0)) f)
-
-  pub same_end : (old : Bool) → m ≤ i → (old && same_from m i a b) ≡ old
-  unfolding same_window
-  same_end old h =
-      let la : length (take m a) ≤ i = rw (length-take-le m a fa) h in
-      let lb : length (take m b) ≤ i = rw (length-take-le m b fb) h in
-      rw (drop_of_length-le (take m a) la, drop_of_length-le (take m b) lb) (and-true old)

@@ -1,89 +1,17 @@
--- `product_of_words` refuses in the order of CO2, or writes the normal form of the product of what the words show.
+-- `product_of_words` hands on the refusal of its checks, or writes the normal form of the product of what the words show.
 -- Assumes nothing.
-use mathlib.Core.Path.{◌≡◌, refl}
-use Rattle.coxeter.specs.Kinds.{kind_of, lanes}
-use Rattle.coxeter.specs.Windows.{window, product}
-use Rattle.coxeter.specs.Checks.{RankOf, WordOf}
+use mathlib.Core.Path.{refl}
 use Rattle.coxeter.specs.Calls.{product_of_words}
-use Rattle.coxeter.proofs.LaneCounts.{refusal_of_lanes, count_of_lanes, words_counted}
-use Rattle.coxeter.proofs.Outcomes.{writes-refused}
-use Rattle.window.proofs.forms.Rooms.{form_written}
-use Rattle.window.proofs.shown.Fronts.{WindowFront, room, front-written, product_passes}
+use Rattle.coxeter.proofs.Outcomes.{writes_passed}
+use Rattle.window.proofs.HandedOn.{writes_handed_on}
 use Rattle.window.proofs.product_of_words.Goals as goal
 
-pub show_product-requires : goal.show_product-requires
-show_product-requires c =
-    -- kind, rank and letters passed, and m is the lane count
-    let counted : let a = c.args in
-    RankOf a.kind a.rank × ((c.in-Count.m ≡ lanes (kind_of a.kind) a.rank) × (WordOf a.rank a.u.now × WordOf a.rank a.v.now)) =
-    words_counted _ _ _ _ c.ranked_words_lanes.ensures c.in-Count.is in
-    let p = counted in
-    record { rank_of = p.0; m_value = p.1.0; word_of = p.1.1.0; word_of_2 = p.1.1.1; m_in_bounds = room _ _ p.0 p.1.0 c.entries_64-work.result c.entries_64-work.ensures }
-
-pub slice_bounds-work-end : goal.slice_bounds-work-end
-slice_bounds-work-end c =
-    -- kind, rank and letters passed, and m is the lane count
-    let counted : let a = c.args in
-    RankOf a.kind a.rank × ((c.in-Count.m ≡ lanes (kind_of a.kind) a.rank) × (WordOf a.rank a.u.now × WordOf a.rank a.v.now)) =
-    words_counted _ _ _ _ c.ranked_words_lanes.ensures c.in-Count.is in
-    -- what the work window holds after the call
-    let held : let a = c.args in
-    let k = kind_of a.kind in
-    WindowFront a.kind a.rank c.in-Count.m (product (window k a.rank a.u.now) (window k a.rank a.v.now))
-    c.show_product.new.out =
-    let p = counted in
-    front-written _ _ p.0 p.1.0 _ _ (product_passes _ _ _ _) c.entries_64-work.ensures c.show_product.ensures in
-    (held).fits
-
-pub slice_bounds-write_checked-end : goal.slice_bounds-write_checked-end
-slice_bounds-write_checked-end c =
-    -- kind, rank and letters passed, and m is the lane count
-    let counted : let a = c.args in
-    RankOf a.kind a.rank × ((c.in-Count.m ≡ lanes (kind_of a.kind) a.rank) × (WordOf a.rank a.u.now × WordOf a.rank a.v.now)) =
-    words_counted _ _ _ _ c.ranked_words_lanes.ensures c.in-Count.is in
-    -- what the work window holds after the call
-    let held : let a = c.args in
-    let k = kind_of a.kind in
-    WindowFront a.kind a.rank c.in-Count.m (product (window k a.rank a.u.now) (window k a.rank a.v.now))
-    c.show_product.new.out =
-    let p = counted in
-    front-written _ _ p.0 p.1.0 _ _ (product_passes _ _ _ _) c.entries_64-work.ensures c.show_product.ensures in
-    (held).size
-
-pub write_checked-requires : goal.write_checked-requires
-write_checked-requires c =
-    -- kind, rank and letters passed, and m is the lane count
-    let counted : let a = c.args in
-    RankOf a.kind a.rank × ((c.in-Count.m ≡ lanes (kind_of a.kind) a.rank) × (WordOf a.rank a.u.now × WordOf a.rank a.v.now)) =
-    words_counted _ _ _ _ c.ranked_words_lanes.ensures c.in-Count.is in
-    -- what the work window holds after the call
-    let held : let a = c.args in
-    let k = kind_of a.kind in
-    WindowFront a.kind a.rank c.in-Count.m (product (window k a.rank a.u.now) (window k a.rank a.v.now))
-    c.show_product.new.out =
-    let p = counted in
-    front-written _ _ p.0 p.1.0 _ _ (product_passes _ _ _ _) c.entries_64-work.ensures c.show_product.ensures in
-    record { rank_of = (counted).0; window_of = (held).passes }
-
-pub returns-in-Count : goal.returns-in-Count
+pub returns-in_err-first : goal.returns-in_err-first
 unfolding product_of_words
-returns-in-Count c =
-    -- kind, rank and letters passed, and m is the lane count
-    let counted : let a = c.args in
-    RankOf a.kind a.rank × ((c.in-Count.m ≡ lanes (kind_of a.kind) a.rank) × (WordOf a.rank a.u.now × WordOf a.rank a.v.now)) =
-    words_counted _ _ _ _ c.ranked_words_lanes.ensures c.in-Count.is in
-    -- what the work window holds after the call
-    let held : let a = c.args in
-    let k = kind_of a.kind in
-    WindowFront a.kind a.rank c.in-Count.m (product (window k a.rank a.u.now) (window k a.rank a.v.now))
-    c.show_product.new.out =
-    let p = counted in
-    front-written _ _ p.0 p.1.0 _ _ (product_passes _ _ _ _) c.entries_64-work.ensures c.show_product.ensures in
-    let p = count_of_lanes _ _ _ c.ranked_words_lanes.ensures _ c.in-Count.is in
-    form_written (held) _ _ _ refl p.0 c.write_checked.ensures
+returns-in_err-first c = writes_handed_on _ _ _ _ refl _ _ c.from_residual.ensures c.in_err-first.ensures.refusal
 
-pub returns-in-Refused : goal.returns-in-Refused
+pub returns : goal.returns
 unfolding product_of_words
-returns-in-Refused c =
-    let refused = refusal_of_lanes _ _ _ c.ranked_words_lanes.ensures _ c.in-Refused.is in
-    writes-refused _ _ _ _ _ refl refused.0 refused.1
+returns c =
+    let h = c.in_ok-first.ensures.words in
+    writes_passed _ _ _ _ _ refl c.in_ok-first.ensures.refusal _ _ refl (rw (c.shown_product.ensures.group.0, c.shown_product.ensures.group.1, c.shown_product.ensures.entries, h.0.0, h.0.1, h.0.2, h.1.2) at c.write_form.ensures)

@@ -1,27 +1,24 @@
--- The order of words, one letter at a time, in the form in which the code meets it.
+-- The order of words of one length against that of slices, which puts the lower letter first.
 -- Assumes nothing.
-use mathlib.Core.Path.{◌≡◌}
-use mathlib.Core.Bool.{false}
-use mathlib.Core.List.{List}
-use Prim.Native.Nat.{ℕ, ◌+◌, ◌≤◌, ◌<◌}
+use mathlib.Core.Path.{◌≡◌, refl, sym}
+use mathlib.Core.List.{List, [], ◌∷◌}
+use Prim.Native.Nat.{ℕ}
 use native.Mathlib.Omega.{arith}
-use lib.Dec.{ltb}
-use lib.ListN.{length, get_or, drop, drop_of_length-le}
-use borrow.Author.Tests.{eq-eqb, ne_eqb}
+use lib.ListN.{length}
+use borrow.Author.Tests.{lt-ltb, le-ltb, eq-eqb, ne_eqb}
+use Rattle.std.specs.Cmp.Lexicographic.{slice_cmp}
+use Rattle.std.specs.Ordering.{is_lt, nat_cmp}
 use Rattle.coxeter.specs.Dictionary.{before}
-use Rattle.coxeter.proofs.Lists.{drop_next}
+use Rattle.coxeter.proofs.Order.{less, same, more, compared}
 
--- the first difference
-pub before_here : (u v : List ℕ) (i : ℕ) → length u ≡ length v → i < length u → (get_or u i 0 ≡ get_or v i 0 → ⊥)
-    → before (drop i u) (drop i v) ≡ ltb (get_or v i 0) (get_or u i 0)
+pub is_lt-before : (u v : List ℕ) → length u ≡ length v → is_lt (slice_cmp nat_cmp v u) ≡ before u v
 unfolding before
-before_here u v i e h d = rw (drop_next u i 0 h, drop_next v i 0 (omega arith), ne_eqb (get_or u i 0) (get_or v i 0) d)
-
-pub before_step : (u v : List ℕ) (i : ℕ) → length u ≡ length v → i < length u → get_or u i 0 ≡ get_or v i 0
-    → before (drop i u) (drop i v) ≡ before (drop (i + 1) u) (drop (i + 1) v)
-unfolding before
-before_step u v i e h a = rw (drop_next u i 0 h, drop_next v i 0 (omega arith), eq-eqb (get_or u i 0) (get_or v i 0) a)
-
-pub before_end : (u v : List ℕ) (i : ℕ) → length u ≡ length v → length u ≤ i → before (drop i u) (drop i v) ≡ false
-unfolding before
-before_end u v i e h = rw (drop_of_length-le u h, drop_of_length-le v {i = i} (omega arith))
+is_lt-before [] [] e = refl
+is_lt-before [] (b ∷ v) e = absurd (omega arith)
+is_lt-before (a ∷ u) [] e = absurd (omega arith)
+is_lt-before (a ∷ u) (b ∷ v) e =
+    elim (compared a b) [
+      | less l ↦ rw (le-ltb b a (omega arith), ne_eqb b a (omega arith), ne_eqb a b (omega arith))
+      | same q ↦ rw (le-ltb b a (omega arith), eq-eqb b a (sym q), eq-eqb a b q) (is_lt-before u v (omega arith))
+      | more l ↦ rw (lt-ltb b a l, ne_eqb a b (omega arith))
+    ]

@@ -4,21 +4,20 @@ use mathlib.Core.Path.{◌≡◌, sym, ◌∙◌}
 use native.Mathlib.Omega.{arith}
 use borrow.Author.Rules.{rules}
 use Rattle.coxeter.specs.NormalForm.{rise, block}
-use Rattle.coxeter.specs.Kinds.{kind_of}
 use Rattle.coxeter.proofs.LetterRuns.{rise-span, block_up}
 use Rattle.window.proofs.normal.write_block.Goals as goal
 
 pub write_up-requires : goal.write_up-requires
 write_up-requires c =
     let identity : let a = c.args in
-    block (kind_of a.kind) a.m a.i a.j ≡ rise a.i a.j =
+    block a.kind a.m a.i a.j ≡ rise a.i a.j =
     block_up _ _ _ _ c.if-j-m.true ∙ sym (rise-span _ _) in
     (search rules, rw (identity) at c.requires.j_in_bounds)
 
 pub returns-then-j-m : goal.returns-then-j-m
 returns-then-j-m c =
     let identity : let a = c.args in
-    block (kind_of a.kind) a.m a.i a.j ≡ rise a.i a.j =
+    block a.kind a.m a.i a.j ≡ rise a.i a.j =
     block_up _ _ _ _ c.if-j-m.true ∙ sym (rise-span _ _) in
     rw (identity) c.write_up.ensures
 

@@ -1,16 +1,31 @@
 -- What `search` leaves open of the proof of `normal::write_down`.
-use Rattle.coxeter.proofs.Lists.{storing_next, storing_room}
-use Rattle.window.proofs.normal.Blocks.{storing_fall, storing_down, stored_down}
+use mathlib.Core.Path.{refl, ◌∙◌}
+use Prim.Native.Nat.{◌+◌, ◌-◌}
+use native.Mathlib.Omega.{arith}
+use lib.ListN.{length}
+use Rattle.coxeter.specs.NormalForm.{down}
+use Rattle.coxeter.specs.NormalForm.{fall}
+use Rattle.window.proofs.normal.Blocks.{length-fall, down-fall, down_next, part_long, stored_in_part}
 use Rattle.window.proofs.normal.write_down.Goals as goal
 
-pub loop-above-init : goal.loop-above-init
-loop-above-init c = storing_fall _ _ _ _
+pub slice_bounds-letter-items-end : goal.slice_bounds-letter-items-end
+slice_bounds-letter-items-end c = omega (arith, length-fall c.args.b c.args.a, c.saturating_sub.ensures, c.requires)
 
-pub bounds-out-r : goal.bounds-out-r
-bounds-out-r c = storing_room c.requires.2 (storing_down c.loop-above-test.true c.loop-above.invariant)
+pub loop-letter-init : goal.loop-letter-init
+unfolding down
+loop-letter-init c = (omega arith, refl)
 
-pub loop-above-preserved : goal.loop-above-preserved
-loop-above-preserved c = storing_next (storing_down c.loop-above-test.true c.loop-above.invariant)
+pub loop-letter-preserved : goal.loop-letter-preserved
+loop-letter-preserved c =
+    let held = c.loop-letter.invariant in
+    (omega arith, down_next c.args.b c.loop-letter.letter-index c.loop-letter.letter-items (omega arith) (omega arith) held.1)
 
 pub returns : goal.returns
-returns c = stored_down c.loop-above-test.false c.loop-above.invariant
+returns c =
+    let a = c.args in
+    let size = length-fall a.b a.a in
+    let long = part_long a.out.now a.at (a.at + c.saturating_sub.result - a.at) (length (fall a.b a.a)) c.requires.2 (omega arith) in (
+      omega arith,
+      stored_in_part a.out.now c.loop-letter.letter-items (fall a.b a.a) a.at _ c.loop-letter.letter-index c.requires.2 (omega arith) (omega arith) (omega arith)
+          (c.loop-letter.invariant.1 ∙ down-fall a.b a.a c.loop-letter.letter-index (omega arith)),
+    )

@@ -1,13 +1,11 @@
--- `normal::write_down` stores the letters from b down to a. The invariant: what is left to store is the letters
--- below `above`.
+-- `normal::write_down` stores the letters from b down to a. The invariant: those before the place reached are stored, and the next is below
+-- `above`.
 -- Assumes nothing.
-use Rattle.coxeter.specs.NormalForm.{fall}
-use Rattle.coxeter.proofs.LetterRuns.{slide}
-use Rattle.coxeter.proofs.Lists.{Storing}
+use mathlib.Core.Path.{◌≡◌}
+use Prim.Native.Nat.{◌+◌}
+use lib.ListN.{take}
+use Rattle.coxeter.specs.NormalForm.{down}
 use Rattle.window.proofs.normal.write_down.Given as goal
 
-abbrev pub invariant-loop-above : goal.invariant-loop-above
-invariant-loop-above l = Storing l.initial.out l.at (fall l.b l.a) l.out l.r (slide l.above l.a)
-
-abbrev pub decreases-loop-above : goal.decreases-loop-above
-decreases-loop-above l = l.above
+abbrev pub invariant-loop-letter : goal.invariant-loop-letter
+invariant-loop-letter l = (l.above + l.letter-index ≡ l.b + 1) × (take l.letter-index l.letter-items ≡ down l.b l.letter-index)

@@ -4,7 +4,6 @@ use mathlib.Core.Path.{◌≡◌}
 use mathlib.Core.List.{◌++◌}
 use Prim.Native.Nat.{◌-◌, ◌*◌}
 use borrow.Author.Rules.{rules}
-use Rattle.coxeter.specs.Kinds.{kind_of}
 use Rattle.coxeter.specs.NormalForm.{rise, fall, block}
 use Rattle.coxeter.proofs.Lists.{room_left, room_right, stored_append}
 use Rattle.window.proofs.normal.write_turned.Goals as goal
@@ -17,7 +16,7 @@ write_up-next-requires c =
     -- the block's two runs
     let runs : let a = c.args in
     let turn = c.turn_of-turn.result in
-    block (kind_of a.kind) a.n a.i a.j ≡ rise a.i turn.top ++ fall turn.high (2 * a.n - a.j) =
+    block a.kind a.n a.i a.j ≡ rise a.i turn.top ++ fall turn.high (2 * a.n - a.j) =
     c.turn_of-turn.ensures.2 _ _ c.requires.ranked.2 in
     (c.turn_of-turn.ensures.0, room_left _ (rise _ _) (fall _ _) _ (rw (runs) at c.requires.j_in_bounds))
 
@@ -26,7 +25,7 @@ write_down-requires c =
     -- the block's two runs
     let runs : let a = c.args in
     let turn = c.turn_of-turn.result in
-    block (kind_of a.kind) a.n a.i a.j ≡ rise a.i turn.top ++ fall turn.high (2 * a.n - a.j) =
+    block a.kind a.n a.i a.j ≡ rise a.i turn.top ++ fall turn.high (2 * a.n - a.j) =
     c.turn_of-turn.ensures.2 _ _ c.requires.ranked.2 in
     let room = rw (runs) at c.requires.j_in_bounds in
     (c.turn_of-turn.ensures.1, search rules, room_right _ (rise _ _) (fall _ _) _ _ _ room c.write_up-next.ensures.0 c.write_up-next.auto.out)
@@ -36,7 +35,7 @@ returns c =
     -- the block's two runs
     let runs : let a = c.args in
     let turn = c.turn_of-turn.result in
-    block (kind_of a.kind) a.n a.i a.j ≡ rise a.i turn.top ++ fall turn.high (2 * a.n - a.j) =
+    block a.kind a.n a.i a.j ≡ rise a.i turn.top ++ fall turn.high (2 * a.n - a.j) =
     c.turn_of-turn.ensures.2 _ _ c.requires.ranked.2 in
     let up = c.write_up-next in
     rw (runs)

@@ -10,7 +10,7 @@ use Rattle.window.proofs.product.image.Goals as goal
 
 pub overflow_cast-result : goal.overflow_cast-result
 overflow_cast-result c =
-    let known = positive_index _ _ c.if-kind-eq1.true c.requires.e_value c.ranges.e in
+    let known = positive_index _ _ c.in-A.is c.requires.e_value c.ranges.e in
     (known.1, known.2)
 
 pub overflow_sub-result : goal.overflow_sub-result
@@ -20,9 +20,9 @@ pub bounds-u-e : goal.bounds-u-e
 bounds-u-e c =
     omega (arith, ap nat_abs (byte_back c.args.e c.ranges.e), c.requires.bound, c.requires.e_in_bounds, c.requires.e_bound)
 
-pub returns-then-kind-eq1 : goal.returns-then-kind-eq1
-returns-then-kind-eq1 c =
-    let known = positive_index _ _ c.if-kind-eq1.true c.requires.e_value c.ranges.e in
+pub returns-in-A : goal.returns-in-A
+returns-in-A c =
+    let known = positive_index _ _ c.in-A.is c.requires.e_value c.ranges.e in
     image_positive _ _ _ (ap nat_abs (byte_back c.args.e c.ranges.e)) c.requires.bound known.0 c.result-1.given
 
 pub overflow_sub-p : goal.overflow_sub-p
@@ -54,8 +54,8 @@ returns-then-is_negative c =
     c.negated.type_inv
     c.negated.ensures
 
-pub returns : goal.returns
-returns c =
+pub returns-else-is_negative : goal.returns-else-is_negative
+returns-else-is_negative c =
     let size_is : c.size-s.result ≡ nat_abs c.args.e =
     c.size-s.ensures ∙ ap nat_abs (byte_back c.args.e c.ranges.e) in
     let sign_is : c.is_negative.result ≡ negative c.args.e =

@@ -2,13 +2,10 @@
 -- `i` on.
 -- Assumes nothing.
 use mathlib.Core.Path.{◌≡◌}
-use Prim.Native.Nat.{◌+◌, ◌≤◌, ◌-◌}
-use lib.ListN.{length, drop}
+use Prim.Native.Nat.{◌+◌}
+use lib.ListN.{drop}
 use Rattle.window.proofs.product.Scatter.{scatter}
 use Rattle.window.proofs.product.inverse_into.Given as goal
 
 abbrev pub invariant-loop-i : goal.invariant-loop-i
-invariant-loop-i l = (l.i ≤ length l.w) × (length l.out ≡ length l.initial.out) × (scatter l.initial.out 1 l.w ≡ scatter l.out (l.i + 1) (drop l.i l.w))
-
-abbrev pub decreases-loop-i : goal.decreases-loop-i
-decreases-loop-i l = length l.w - l.i
+invariant-loop-i l = scatter l.initial.out 1 l.window.entries.now ≡ scatter l.out (l.i + 1) (drop l.i l.window.entries.now)

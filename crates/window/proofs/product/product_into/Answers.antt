@@ -1,24 +1,18 @@
 -- What `search` leaves open of the proof of `product::product_into`.
 use mathlib.Core.Path.{sym, ◌∙◌}
 use native.Mathlib.Omega.{arith}
-use lib.ListN.{length-set}
-use Rattle.coxeter.proofs.Acceptance.{rank_accepted}
+use Rattle.coxeter.proofs.Groups.{rank_le}
 use Rattle.window.proofs.product.Entries.{image_asks, product_step, product_end, product-written}
 use Rattle.window.proofs.product.product_into.Goals as goal
 
 pub image-requires : goal.image-requires
-image-requires c = let pre = c.requires in
-    let h = image_asks _ _ _ (rank_accepted _ _ pre.rank_of).1 pre.window_of pre.window_of_2 c.loop-i-test.true c.image-arg-1.given in
+image-requires c = let h = image_asks _ _ _ (rank_le _ _ c.args.pair.group.in_range).1 c.args.pair.first_accepted c.args.pair.second_accepted c.loop-i-test.true (omega arith) in
     record { e_value = h.0; bound = h.1.0; e_in_bounds = h.1.1.0; e_bound = h.1.1.1 }
 
 pub loop-i-preserved : goal.loop-i-preserved
 loop-i-preserved c =
-    let at_loop = c.loop-i in (
-      omega arith,
-      simp length-set at_loop.invariant.1,
-      at_loop.invariant.2 ∙ product_step _ _ _ _ _ c.loop-i-test.true c.image-arg-1.given c.image.type_inv c.image.ensures,
-    )
+    c.loop-i.invariant ∙ product_step _ _ _ _ _ c.loop-i-test.true (omega arith) c.image.type_inv c.image.ensures
 
 pub returns : goal.returns
 returns c =
-    sym (product_end _ _ _ _ c.loop-i-test.false) ∙ sym c.loop-i.invariant.2 ∙ product-written _ _ _ c.requires.v_in_bounds
+    sym (product_end _ _ _ _ c.loop-i-test.false) ∙ sym c.loop-i.invariant ∙ product-written _ _ _ c.requires

@@ -2,14 +2,10 @@
 -- part of v from `i` on.
 -- Assumes nothing.
 use mathlib.Core.Path.{◌≡◌}
-use Prim.Native.Nat.{◌≤◌, ◌-◌}
-use lib.ListN.{length, drop}
+use lib.ListN.{drop}
 use lib.Seq.{sets}
 use Rattle.coxeter.specs.Windows.{product}
 use Rattle.window.proofs.product.product_into.Given as goal
 
 abbrev pub invariant-loop-i : goal.invariant-loop-i
-invariant-loop-i l = (l.i ≤ length l.v) × (length l.out ≡ length l.initial.out) × (sets l.initial.out 0 (product l.u l.v) ≡ sets l.out l.i (product l.u (drop l.i l.v)))
-
-abbrev pub decreases-loop-i : goal.decreases-loop-i
-decreases-loop-i l = length l.v - l.i
+invariant-loop-i l = sets l.initial.out 0 (product l.pair.first.now l.pair.second.now) ≡ sets l.out l.i (product l.pair.first.now (drop l.i l.pair.second.now))

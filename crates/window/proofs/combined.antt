@@ -1,2 +1,0 @@
--- What the proofs of the module `combined` share.
-pub mod Made

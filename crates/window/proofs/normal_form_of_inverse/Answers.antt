@@ -1,0 +1,14 @@
+-- `normal_form_of_inverse` hands on the refusal of its checks, or writes the normal form of the inverse.
+-- Assumes nothing.
+use mathlib.Core.Path.{refl}
+use Rattle.coxeter.proofs.Outcomes.{writes_passed}
+use Rattle.window.proofs.HandedOn.{writes_handed_on}
+use Rattle.window.proofs.normal_form_of_inverse.Goals as goal
+
+pub returns-in_err-window : goal.returns-in_err-window
+returns-in_err-window c = writes_handed_on _ _ _ _ refl _ _ c.from_residual.ensures c.in_err-window.ensures.refusal
+
+pub returns : goal.returns
+returns c =
+    let h = c.in_ok-window.ensures.window in
+    writes_passed _ _ _ _ _ refl c.in_ok-window.ensures.refusal _ _ refl (rw (h.0, h.1, h.2) at c.write_form_of_inverse.ensures)
