@@ -256,16 +256,16 @@ pub yielded : {X : Type 0} {F : ℕ → ℕ → Outcome X} → Refusable F → (
     → mag z < 9223372036854775808 → z ≡ number_of a → (a ≡ (F l m).answer) × (after ≡ (F l m).bytes) → (to_z w64 (of_z w64 z), after) ≡ numbered (F k n)
 yielded r k n {l} {m} {z} {a} {after} e f h q b = numbers_alike z a after _ h q (rw (as_bytes r k n l m e f) at b)
 
--- and a call that counts answered a, whose numbers went to a list
-pub crossings_as_bytes : {F : ℕ → ℕ → Counted} → Refusable F → {k n l m : ℕ} {a : Counted} (list : List ℕ) {z : ℤ} {after : List ℕ} → AreBytes k n l m
-    → mag z < 9223372036854775808 → (z, after) ≡ listed (crossing_numbers a) list → a ≡ F l m
+-- and a call that counts answered a, whose numbers went to a list with the number x
+pub crossings_as_bytes : {F : ℕ → ℕ → Counted} → Refusable F → (k n : ℕ) (list : List ℕ) {l m : ℕ} {a : Counted} {x z : ℤ} {after : List ℕ} → l ≡ byte_of k → m ≡ byte_of n
+    → mag z < 9223372036854775808 → z ≡ x → (x, after) ≡ listed (crossing_numbers a) list → a ≡ F l m
     → (to_z w64 (of_z w64 z), after) ≡ listed (crossing_numbers (F k n)) list
-crossings_as_bytes f {k} {n} {l} {m} list {z} e h s b = rw (← (b ∙ as_bytes f k n l m e.kind e.rank), i64_back z h) s
+crossings_as_bytes f k n list {l} {m} {z = z} b c h e s d = rw (← (d ∙ as_bytes f k n l m b c), i64_back z h, e) s
 
--- and a call whose number is z left y
-pub as_bytes_back : {Y : Type 0} {F : ℕ → ℕ → ℤ × Y} → Refusable F → (k n : ℕ) {l m : ℕ} (z : ℤ) (y : Y) → l ≡ byte_of k → m ≡ byte_of n
-    → mag z < 9223372036854775808 → (z, y) ≡ F l m → (to_z w64 (of_z w64 z), y) ≡ F k n
-as_bytes_back r k n {l} {m} z y e f h q = rw (i64_back z h) (q ∙ as_bytes r k n l m e f)
+-- and a call whose number is x left y
+pub as_bytes_back : {Y : Type 0} {F : ℕ → ℕ → ℤ × Y} → Refusable F → (k n : ℕ) {l m : ℕ} {x z : ℤ} (y : Y) → l ≡ byte_of k → m ≡ byte_of n
+    → mag z < 9223372036854775808 → z ≡ x → (x, y) ≡ F l m → (to_z w64 (of_z w64 z), y) ≡ F k n
+as_bytes_back r k n {l} {m} {z = z} y b c h e q = rw (i64_back z h, e) (q ∙ as_bytes r k n l m b c)
 
 -- ---- refusals of 32 bits: a number that is no byte has no message, as 0 has none
 

@@ -34,34 +34,33 @@ use Rattle.c_api.proofs.Lists.{beside_stored, beside_alone, beside_roomless}
 
 -- ---- counts and fields
 
-module _ (x : Counted) (list : List ℕ) where
-  pub crossings-refused : (z : ℤ) (r : ℕ) → x ≡ counted.Refused r → z ≡ refused r → (z, list) ≡ listed (crossing_numbers x) list
+pub crossings-refused : (r : ℕ) (list : List ℕ) {z : ℤ} → z ≡ refused r → (z, list) ≡ listed (crossing_numbers (counted.Refused r)) list
+unfolding crossing_numbers
+crossings-refused r list e = rw (← e) (listed_alone _ list)
+
+module _ (a b c : ℕ) (list : List ℕ) where
+  pub crossings-short : {z : ℤ} → length list < 3 → z ≡ refused 14 → (z, list) ≡ listed (crossing_numbers (counted.Crossings a b c)) list
   unfolding crossing_numbers
-  crossings-refused z r q e = rw (q, ← e) (listed_alone z list)
+  crossings-short h e = rw e (listed-short (pos (a + b + c)) (a ∷ b ∷ c ∷ []) list h)
 
-  module _ (a b c : ℕ) (q : x ≡ counted.Crossings a b c) where
-    pub crossings-short : length list < 3 → (refused 14, list) ≡ listed (crossing_numbers x) list
-    unfolding crossing_numbers
-    crossings-short h = rw q (listed-short (pos (a + b + c)) (a ∷ b ∷ c ∷ []) list h)
+  pub crossings_stored : 3 ≤ length list → (pos (a + b + c), a ∷ b ∷ c ∷ drop 3 list) ≡ listed (crossing_numbers (counted.Crossings a b c)) list
+  unfolding crossing_numbers
+  crossings_stored h = listed_stored (pos (a + b + c)) (a ∷ b ∷ c ∷ []) list h
 
-    pub crossings_stored : {z : ℤ} → 3 ≤ length list → z ≡ pos (a + b + c) → (z, a ∷ b ∷ c ∷ drop 3 list) ≡ listed (crossing_numbers x) list
-    unfolding crossing_numbers
-    crossings_stored {z} h e = rw (q, ← e) (listed_stored z (a ∷ b ∷ c ∷ []) list h)
-
--- the call below answered a, which is its definition d
-module _ {a d : Preset} (list : List ℕ) (e : a ≡ d) where
-  pub fields_refused : (z : ℤ) (r : ℕ) → a ≡ preset.Refused r → z ≡ refused r → (z, list) ≡ listed (preset_numbers d) list
+-- d is what the call below answers
+module _ {d : Preset} (list : List ℕ) where
+  pub fields_refused : {r : ℕ} {z : ℤ} → preset.Refused r ≡ d → z ≡ refused r → (z, list) ≡ listed (preset_numbers d) list
   unfolding preset_numbers
-  fields_refused z r q f = rw (← e, q, ← f) (listed_alone z list)
+  fields_refused q e = rw (← q, ← e) (listed_alone _ list)
 
-  module _ (k n s l : ℕ) (q : a ≡ preset.Found k n s l) where
-    pub fields_short : length list < 4 → (refused 14, list) ≡ listed (preset_numbers d) list
+  module _ {k n s l : ℕ} (q : preset.Found k n s l ≡ d) where
+    pub fields_short : {z : ℤ} → length list < 4 → z ≡ refused 14 → (z, list) ≡ listed (preset_numbers d) list
     unfolding preset_numbers
-    fields_short h = rw (← e, q) (listed-short (pos 4) (k ∷ n ∷ s ∷ l ∷ []) list h)
+    fields_short h e = rw (← q, e) (listed-short (pos 4) (k ∷ n ∷ s ∷ l ∷ []) list h)
 
     pub fields_stored : 4 ≤ length list → (pos 4, k ∷ n ∷ s ∷ l ∷ drop 4 list) ≡ listed (preset_numbers d) list
     unfolding preset_numbers
-    fields_stored h = rw (← e, q) (listed_stored (pos 4) (k ∷ n ∷ s ∷ l ∷ []) list h)
+    fields_stored h = rw (← q) (listed_stored (pos 4) (k ∷ n ∷ s ∷ l ∷ []) list h)
 
 -- ---- one rewrite
 

@@ -1,12 +1,11 @@
 // The numbers that the calls for C return.
-ghost use Rattle.std.specs.Prelude.{◌≡◌, ℕ, ◌+◌, ◌^◌, ◌≤◌, ◌<◌, ltb, pos};
+ghost use Rattle.std.specs.Prelude.{◌≡◌, ◌+◌, ◌^◌, ◌<◌, ltb, IfOk};
 ghost use Rattle.coxeter.specs.Kinds.{pick};
-ghost use Rattle.coxeter.specs.Checks.{◌then◌};
-ghost use Rattle.coxeter.specs.answers.Answer.{Length};
-ghost use Rattle.coxeter.specs.answers.Counted.{Crossings};
+ghost use Rattle.coxeter.specs.answers.Answer.{as_answer};
+ghost use Rattle.coxeter.specs.answers.Counted.{as_counted};
 ghost use Rattle.c_api.specs.Calls.{refused, number_of, crossing_numbers, listed};
 
-use window::{Answer, Counted};
+use coxeter::{LengthCounts, Refusal};
 
 // IC5: a kind or a rank as the calls below take it. Values above 255 become 0, which every call refuses.
 pub(crate) fn byte(x: u32) -> u8
@@ -22,53 +21,31 @@ pub(crate) fn refusal_number(k: u8) -> i64
     -(k as i64)
 }
 
-// The number where the lengths of a call have no room, by the refusal of its checks before 14.
-pub(crate) fn unlisted(refusal: u8) -> i64
-    ensures { result ≡ refused (refusal then 14) }
-{
-    refusal_number(if refusal == 0 { 14 } else { refusal })
-}
-
-// A length or a number of steps.
-pub(crate) fn size(l: usize) -> i64
-    requires { l < 2 ^ 63 }
-    ensures { result ≡ pos l }
-{
-    l as i64
-}
-
-// The number of an answer.
-pub(crate) fn number(answer: Answer) -> i64
-    requires { (l : ℕ) → answer ≡ Length l → l < 2 ^ 63 }
-    ensures { result ≡ number_of answer }
+// IC2: the number of a length or of a number of steps, or of the refusal.
+pub(crate) fn number_of(answer: Result<usize, Refusal>) -> i64
+    requires { IfOk answer (λ l. l < 2 ^ 63) }
+    ensures { result ≡ number_of (as_answer answer) }
 {
     match answer {
-        Answer::Length(l) => size(l),
-        Answer::Refused(refusal) => refusal_number(refusal),
+        Ok(l) => l as i64,
+        Err(refusal) => refusal_number(refusal.number()),
     }
 }
 
-// Writes the three counts of a length to the front of `counts` and returns their total, which is at most 65,535.
-pub(crate) fn write_crossings(counted: Counted, counts: &mut [u64]) -> i64
-    requires { (a b c : ℕ) → counted ≡ Crossings a b c → a + b + c ≤ 65535 }
-    ensures { (result, counts.new) ≡ listed (crossing_numbers counted) counts.old }
+// Writes the three counts of a length to the front of `list` and returns their total. Refusal 14.
+pub(crate) fn write_crossings(
+    counts: Result<LengthCounts, Refusal>,
+    list: &mut [u64],
+) -> Result<usize, Refusal>
+    requires { IfOk counts (λ c. c.inversions + c.negative_sum_pairs + c.negatives < 2 ^ 63) }
+    ensures fits { IfOk result (λ l. l < 2 ^ 63) }
+    ensures numbers { (number_of (as_answer result), list.new) ≡ listed (crossing_numbers (as_counted counts)) list.old }
 {
-    match counted {
-        Counted::Crossings {
-            inversions,
-            negative_sum_pairs,
-            negatives,
-        } => {
-            let Some(front) = counts.first_chunk_mut() else {
-                return -14;
-            };
-            *front = [
-                inversions as u64,
-                negative_sum_pairs as u64,
-                negatives as u64,
-            ];
-            size(inversions + negative_sum_pairs + negatives)
-        }
-        Counted::Refused(refusal) => refusal_number(refusal),
-    }
+    let counts = counts?;
+    *list.first_chunk_mut().ok_or(Refusal::OutputTooShort)? = [
+        counts.inversions as u64,
+        counts.negative_sum_pairs as u64,
+        counts.negatives as u64,
+    ];
+    Ok(counts.inversions + counts.negative_sum_pairs + counts.negatives)
 }

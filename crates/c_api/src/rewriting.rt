@@ -2,7 +2,7 @@
 ghost use Rattle.std.specs.Prelude.{◌≡◌, []};
 ghost use Rattle.c_api.specs.Calls.{rewriting};
 
-use crate::numbers::{byte, refusal_number, size};
+use crate::numbers::{byte, refusal_number};
 use rewriter::{Rewrite, rewrite_at};
 
 // The number where the rule has no room: nothing can be written, so the rewrite gets an empty output.
@@ -32,7 +32,7 @@ fn rewrite(kind: u8, rank: u8, word: &[u8], place: usize, out: &mut [u8], rule: 
             length,
         } => {
             *front = [family, i, j];
-            size(length)
+            length as i64
         }
         Rewrite::NoneFits => -100,
         Rewrite::Refused(refusal) => refusal_number(refusal),

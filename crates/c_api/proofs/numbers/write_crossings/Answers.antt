@@ -1,19 +1,21 @@
--- `numbers::write_crossings` goes by the cases of the counts; the total is small, and the three go to the front of the
--- list.
+-- `numbers::write_crossings` hands a refusal on, or writes the three counts to the front of the list if it has room.
 -- Assumes nothing.
-use mathlib.Core.Path.{◌∙◌}
-use Rattle.c_api.specs.Calls.{refused}
-use Rattle.c_api.proofs.Lengths.{i64_back}
+use Rattle.c_api.specs.Calls.{number_of}
+use Rattle.c_api.proofs.Lengths.{handed_on, no_room}
 use Rattle.c_api.proofs.Outcomes.{crossings-refused, crossings-short, crossings_stored}
 use Rattle.c_api.proofs.numbers.write_crossings.Goals as goal
 
-pub returns-in_default : goal.returns-in_default
-unfolding refused
-returns-in_default c = crossings-short _ _ _ _ _ c.in-Crossings.is c.in_default.ensures.cases
+pub returns-in_err-counts-clause-numbers : goal.returns-in_err-counts-clause-numbers
+returns-in_err-counts-clause-numbers c = rw c.in_err-counts.was (crossings-refused _ _ (handed_on _ _ c.from_residual.ensures))
 
-pub returns-in-Some : goal.returns-in-Some
-returns-in-Some c =
-    crossings_stored _ _ _ _ _ c.in-Crossings.is c.in-Some.ensures.cases.enough (i64_back _ c.size.type_inv ∙ c.size.ensures)
+pub returns-in_err-ok_or-clause-numbers : goal.returns-in_err-ok_or-clause-numbers
+returns-in_err-ok_or-clause-numbers c =
+    let none = c.in_err-ok_or.ensures.ok_part in
+    rw c.in_ok-counts.was (crossings-short _ _ _ _ (rw none at c.first_chunk_mut.ensures.cases)
+    (no_room _ _ c.from_residual-in_err-ok_or.ensures c.in_err-ok_or.was (rw none at c.ok_or.ensures.value)))
 
-pub returns-in-Refused : goal.returns-in-Refused
-returns-in-Refused c = crossings-refused _ _ _ _ c.in-Refused.is (i64_back _ c.refusal_number.type_inv ∙ c.refusal_number.ensures)
+pub returns-clause-numbers : goal.returns-clause-numbers
+unfolding number_of
+returns-clause-numbers c =
+    let chunk = rw c.in_ok-ok_or.ensures.ok_part at c.first_chunk_mut.ensures.cases in
+    rw c.in_ok-counts.was (crossings_stored _ _ _ _ chunk.enough)

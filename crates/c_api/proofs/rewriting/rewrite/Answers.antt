@@ -2,7 +2,7 @@
 -- Assumes nothing.
 use mathlib.Core.Path.{refl, ◌∙◌}
 use Rattle.c_api.specs.Calls.{refused}
-use Rattle.c_api.proofs.Lengths.{i64_back, rewrote_small}
+use Rattle.c_api.proofs.Lengths.{i64_back, length-fits, length_back, rewrote_small}
 use Rattle.c_api.proofs.Lists.{front_kept}
 use Rattle.c_api.proofs.Outcomes.{rewriting_used, rewriting_fitless, rewriting-refused, rewriting-roomless}
 use Rattle.c_api.proofs.rewriting.rewrite.Goals as goal
@@ -11,14 +11,13 @@ pub returns-in_default : goal.returns-in_default
 returns-in_default c =
     rewriting-roomless _ _ _ _ _ c.in_default.ensures.cases (i64_back _ c.refused_rule.type_inv ∙ c.refused_rule.ensures)
 
-pub size-requires : goal.size-requires
-size-requires c =
-    rewrote_small c.rewrite_at.ensures _ _ _ _ c.in-Used.is
+pub overflow_cast-result : goal.overflow_cast-result
+overflow_cast-result c = length-fits _ (rewrote_small c.rewrite_at.ensures _ _ _ _ c.in-Used.is)
 
 pub returns-in-Used : goal.returns-in-Used
 returns-in-Used c =
     rewriting_used _ c.rewrite_at.ensures _ c.in-Used.is c.in-Some.ensures.cases.enough
-    (i64_back _ c.size.type_inv ∙ c.size.ensures)
+    (length_back _ (rewrote_small c.rewrite_at.ensures _ _ _ _ c.in-Used.is))
 
 pub returns-in-NoneFits : goal.returns-in-NoneFits
 unfolding refused
