@@ -54,7 +54,8 @@ use Rattle.distribution.proofs.Firsts.{table_of_exactly}
 use Rattle.distribution.proofs.Longest.{longest_accepted}
 use Rattle.distribution.proofs.Outcomes.{table_accepted, table_rank}
 use Rattle.book_format.specs.declared.Edition.{Edition}
-use Rattle.book_format.specs.answers.Opened.{as_opened}
+use Rattle.book_format.specs.answers.Opened.{Opened, as_opened}
+use Rattle.book_format.specs.answers.Opened as opened
 use Rattle.book_format.specs.Books.{count, no_such_preset, book_refusal, appended, append_refusal}
 use Rattle.book_format.specs.Calls.{checked_book, run_length, reading_presets, appending}
 use Rattle.book_format.specs.Conversion.{converted, conversion_refusal, converting}
@@ -82,9 +83,6 @@ negate_fits (suc k) h = record { sfits = omega arith }
 -- `-k` for a cast byte
 minus_is : (k : ℕ) → k < 256 → pos 0 -ℤ to_z w64 k ≡ neg_ℤ (pos k)
 minus_is k h = rw (to_z_pos w64 k (omega arith)) (+ℤ_idl (neg_ℤ (pos k)))
-
-pub refusal-fits : (k : ℕ) → k < 256 → SFits w64 (pos 0 -ℤ to_z w64 k)
-refusal-fits k h = rw (minus_is k h) (negate_fits k h)
 
 pub refusal_back : (k : ℕ) → k < 256 → to_z w64 (of_z w64 (pos 0 -ℤ to_z w64 k)) ≡ refused k
 unfolding refused
@@ -219,7 +217,7 @@ module _ (k n : ℕ) where
 
 -- a rewritten word is no longer than the word, and so has at most 4,096 letters
 pub rewrote_small : {k n : ℕ} {u : List ℕ} {p : ℕ} {before after : List ℕ} {a : Rewrite} → Rewrote single k n u p before after a
-    → (f i j l : ℕ) → a ≡ Used f i j l → l < 2 ^ 63
+    → (f i j l : ℕ) → a ≡ Used f i j l → l ≤ 65535
 unfolding rewrite_at
 rewrote_small {k} {n} {u} {p} {before} {after} w f i j l e =
     let r = rank_refusal k n then word_refusal n u then check 12 (past_end u p) in
@@ -233,14 +231,14 @@ rewrote_small {k} {n} {u} {p} {before} {after} w f i j l e =
           impossible (cc)
     ]
   where
-    by_rule : AcceptedWord k n u → l < 2 ^ 63
+    by_rule : AcceptedWord k n u → l ≤ 65535
     by_rule h =
         let t = used_length f i j l h (subst (Rewrote single k n u p before after) e w) in
         omega (arith, length_accepted n u h.word)
 
 -- the longest normal form at a rank with a table has at most 4,096 letters
 pub delay_table_small : (k n : ℕ) (counts : List ℕ) (entries : List ℤ) (letters : List ℕ)
-    → {a b l : ℕ} → (delay_table k n counts entries letters).answer ≡ table.Written a b l → l < 2 ^ 63
+    → {a b l : ℕ} → (delay_table k n counts entries letters).answer ≡ table.Written a b l → l ≤ 65535
 unfolding delay_table tables
 delay_table_small k n counts entries letters {a} {b} {l} e =
     let d = distribution (kind_of k) n in
@@ -272,12 +270,15 @@ reading_presets_small ed b i out =
     answer_of_small (book_refusal ed b then r) (min (count b - i) (length out / 5))
     (λ z. let a = accepted ed b (then_zero (book_refusal ed b) r z).0 in omega arith)
 
-pub presets_fit : (ed : Edition) (b : List ℕ) (r : Result ℕ Refusal) → as_opened r ≡ checked_book ed b → IfOk r (λ (c : ℕ). c < 2 ^ 63)
-presets_fit ed b (Ok c) e =
-    let p = ((checked_book_exactly ed b).1 c).0 (sym e) in
+pub presets_small : (ed : Edition) (b : List ℕ) (a : Opened) (c : ℕ) → a ≡ checked_book ed b → a ≡ opened.Presets c → c ≤ 65535
+presets_small ed b a c e q =
+    let p = ((checked_book_exactly ed b).1 c).0 (sym e ∙ q) in
     let a = accepted ed b p.0 in
     omega arith
-presets_fit ed b (Err r) e = tt
+
+pub presets-fit : (ed : Edition) (b : List ℕ) (r : Result ℕ Refusal) → as_opened r ≡ checked_book ed b → IfOk r (λ (c : ℕ). c < 2 ^ 63)
+presets-fit ed b (Ok c) e = omega (arith, presets_small ed b (opened.Presets c) c e refl)
+presets-fit ed b (Err r) e = tt
 
 -- the number of presets as the number of a length
 pub opened_numbered : (r : Result ℕ Refusal) → number_of (as_answer r) ≡ opened_number (as_opened r)

@@ -5,7 +5,7 @@
 -- Assumes nothing.
 use mathlib.Core.Path.{◌≡◌, refl, sym}
 use mathlib.Core.List.{List, [], ◌∷◌}
-use Prim.Native.Nat.{ℕ, ◌+◌, ◌^◌, ◌≤◌, ◌<◌}
+use Prim.Native.Nat.{ℕ, ◌+◌, ◌≤◌, ◌<◌}
 use native.Mathlib.Omega.{arith}
 use lib.IntN.{ℤ, pos}
 use lib.ListN.{length, drop}
@@ -29,7 +29,7 @@ use Rattle.c_api.proofs.Lists.{split-numbers, IsRefusal, roomless, roomless_answ
 -- ---- the number
 
 -- the sum is the length of the word's window
-pub splitting_small : (k n set : ℕ) (u first second : List ℕ) {a b : ℕ} → (splitting k n set u first second).answer ≡ Words a b → a + b < 2 ^ 63
+pub splitting_small : (k n set : ℕ) (u first second : List ℕ) {a b : ℕ} → (splitting k n set u first second).answer ≡ Words a b → a + b ≤ 65535
 splitting_small k n set u first second {a} {b} h =
     let w = window (kind_of k) n u in
     let r = splitting_accepted k n set u first second a b h in

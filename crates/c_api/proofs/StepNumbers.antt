@@ -7,7 +7,7 @@ use mathlib.Core.Path.{◌≡◌, refl, sym}
 use mathlib.Core.Bool.{true, false}
 use mathlib.Core.Logic.{◌⊎◌, inl, inr}
 use mathlib.Core.List.{List, [], ◌∷◌}
-use Prim.Native.Nat.{ℕ, ◌≤◌, ◌<◌, ◌^◌}
+use Prim.Native.Nat.{ℕ, ◌≤◌, ◌<◌}
 use native.Mathlib.Omega.{arith}
 use lib.IntN.{ℤ, pos}
 use lib.ListN.{length, drop}
@@ -27,19 +27,18 @@ use Rattle.traces.proofs.Unchanged.{to_end_refused-unchanged}
 use Rattle.traces.proofs.Tracing.{steps_few}
 use Rattle.traces.proofs.StepBounds.{counted_steps, ended_steps}
 use Rattle.c_api.specs.Calls.{refused, trace_numbers, rewriting_to_end_listed}
-use Rattle.c_api.proofs.Lengths.{Small}
 use Rattle.c_api.proofs.Bytes.{Refusable}
 use Rattle.c_api.proofs.Lists.{trace-numbers, IsRefusal, roomless, roomless_answer, beside_stored, beside_alone, beside_roomless, room_last}
 
 -- ---- numbers of steps
 
-pub number_of_steps_few : (k n : ℕ) (u : List ℕ) → Small (number_of_steps k n u)
+pub number_of_steps_few : (k n : ℕ) (u : List ℕ) (l : ℕ) → number_of_steps k n u ≡ answer.Length l → l ≤ 8386560
 number_of_steps_few k n u l e =
     let a = counted_steps k n u l e in
     omega (arith, a.1, steps_few k n u a.0)
 
 pub rewriting_to_end_few : (k n : ℕ) (u families places lengths out : List ℕ) {s l : ℕ}
-    → (rewriting_to_end k n u families places lengths out).answer ≡ to_end.Ended s l → s < 2 ^ 63
+    → (rewriting_to_end k n u families places lengths out).answer ≡ to_end.Ended s l → s ≤ 8386560
 rewriting_to_end_few k n u families places lengths out {l = l} e =
     let a = ended_steps families places lengths out l e in
     omega (arith, a.1, steps_few k n u a.0)

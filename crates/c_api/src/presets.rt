@@ -1,5 +1,5 @@
 // Calls on a preset book of the first edition, and on one of the second (IC7 of the specification). What both do is
-// one function over the edition.
+// one function over the edition; the C interface needs a name for each.
 ghost use Rattle.std.specs.Prelude.{◌≡◌, IfOk};
 ghost use Rattle.coxeter.specs.answers.Answer.{as_answer};
 ghost use Rattle.book_format.specs.declared.Edition.TheVariants.{First, Second};

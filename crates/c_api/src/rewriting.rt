@@ -3,6 +3,7 @@ ghost use Rattle.std.specs.Prelude.{◌≡◌, []};
 ghost use Rattle.c_api.specs.Calls.{rewriting};
 
 use crate::numbers::{byte, refusal_number};
+use coxeter::Refusal;
 use rewriter::{Rewrite, rewrite_at};
 
 // The number where the rule has no room: nothing can be written, so the rewrite gets an empty output.
@@ -10,7 +11,7 @@ fn refused_rule(kind: u8, rank: u8, word: &[u8], place: usize) -> i64
     ensures { result ≡ (rewriting kind rank word.now place [] []).0 }
 {
     match rewrite_at(kind, rank, word, place, &mut []) {
-        Rewrite::Used { .. } => -14,
+        Rewrite::Used { .. } => refusal_number(Refusal::OutputTooShort.number()),
         Rewrite::NoneFits => -100,
         Rewrite::Refused(refusal) => refusal_number(refusal),
     }

@@ -3,11 +3,11 @@
 -- Assumes nothing.
 use mathlib.Core.Path.{ap, ◌∙◌}
 use Rattle.c_api.specs.Calls.{opened_number}
-use Rattle.c_api.proofs.Lengths.{i64_back, presets_fit, opened_numbered}
+use Rattle.c_api.proofs.Lengths.{i64_back, presets-fit, opened_numbered}
 use Rattle.c_api.proofs.presets.check_book.Goals as goal
 
 pub number_of-requires : goal.number_of-requires
-number_of-requires c = presets_fit _ _ _ c.check_book.ensures
+number_of-requires c = presets-fit _ _ _ c.check_book.ensures
 
 pub returns : goal.returns
 returns c =

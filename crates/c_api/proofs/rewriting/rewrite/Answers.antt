@@ -1,6 +1,7 @@
 -- `rewriting::rewrite` writes the rule where it has room for it, and else nothing; it goes by the cases of the answer.
 -- Assumes nothing.
 use mathlib.Core.Path.{refl, ◌∙◌}
+use native.Mathlib.Omega.{arith}
 use Rattle.c_api.specs.Calls.{refused}
 use Rattle.c_api.proofs.Lengths.{i64_back, length-fits, length_back, rewrote_small}
 use Rattle.c_api.proofs.Lists.{front_kept}
@@ -12,12 +13,12 @@ returns-in_default c =
     rewriting-roomless _ _ _ _ _ c.in_default.ensures.cases (i64_back _ c.refused_rule.type_inv ∙ c.refused_rule.ensures)
 
 pub overflow_cast-result : goal.overflow_cast-result
-overflow_cast-result c = length-fits _ (rewrote_small c.rewrite_at.ensures _ _ _ _ c.in-Used.is)
+overflow_cast-result c = length-fits _ (omega (arith, rewrote_small c.rewrite_at.ensures _ _ _ _ c.in-Used.is))
 
 pub returns-in-Used : goal.returns-in-Used
 returns-in-Used c =
     rewriting_used _ c.rewrite_at.ensures _ c.in-Used.is c.in-Some.ensures.cases.enough
-    (length_back _ (rewrote_small c.rewrite_at.ensures _ _ _ _ c.in-Used.is))
+    (length_back _ (omega (arith, rewrote_small c.rewrite_at.ensures _ _ _ _ c.in-Used.is)))
 
 pub returns-in-NoneFits : goal.returns-in-NoneFits
 unfolding refused

@@ -27,7 +27,7 @@ pub overflow_add-result : goal.overflow_add-result
 overflow_add-result c = omega (arith, splitting_small _ _ _ _ _ _ (sym c.in_ok-split.ensures.0))
 
 pub returns-clause-fits : goal.returns-clause-fits
-returns-clause-fits c = splitting_small _ _ _ _ _ _ (sym c.in_ok-split.ensures.0)
+returns-clause-fits c = omega (arith, splitting_small _ _ _ _ _ _ (sym c.in_ok-split.ensures.0))
 
 pub returns-clause-numbers : goal.returns-clause-numbers
 unfolding number_of

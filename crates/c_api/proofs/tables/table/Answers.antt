@@ -1,6 +1,7 @@
 -- `tables::table` writes the lengths where they have room, and else nothing; it goes by the cases of the result.
 -- Assumes nothing.
 use mathlib.Core.Path.{refl, sym}
+use native.Mathlib.Omega.{arith}
 use Rattle.c_api.specs.Calls.{number_of}
 use Rattle.c_api.proofs.Lengths.{handed_on, handed_first, delay_table_small}
 use Rattle.c_api.proofs.Lists.{front_kept}
@@ -23,7 +24,7 @@ returns-in_err-table-clause-numbers c =
     (delay_table_listed-refused _ _ _ _ _ _ c.in_err-table.ensures (handed_on _ _ c.from_residual-in_err-table.ensures))
 
 pub returns-clause-fits : goal.returns-clause-fits
-returns-clause-fits c = delay_table_small _ _ _ _ _ (sym c.in_ok-table.ensures.0)
+returns-clause-fits c = omega (arith, delay_table_small _ _ _ _ _ (sym c.in_ok-table.ensures.0))
 
 pub returns-clause-numbers : goal.returns-clause-numbers
 unfolding number_of

@@ -1,6 +1,7 @@
 -- `tracing::to_end` writes the final length where it has room, and else nothing; it goes by the cases of the result.
 -- Assumes nothing.
 use mathlib.Core.Path.{refl, sym}
+use native.Mathlib.Omega.{arith}
 use Rattle.c_api.specs.Calls.{number_of}
 use Rattle.c_api.proofs.Lengths.{handed_on, handed_first}
 use Rattle.c_api.proofs.Lists.{front_kept}
@@ -24,7 +25,7 @@ returns-in_err-rewriting-clause-numbers c =
     (handed_on _ _ c.from_residual-in_err-rewriting.ensures))
 
 pub returns-clause-fits : goal.returns-clause-fits
-returns-clause-fits c = rewriting_to_end_few _ _ _ _ _ _ _ (sym c.in_ok-rewriting.ensures.0)
+returns-clause-fits c = omega (arith, rewriting_to_end_few _ _ _ _ _ _ _ (sym c.in_ok-rewriting.ensures.0))
 
 pub returns-clause-numbers : goal.returns-clause-numbers
 unfolding number_of
