@@ -61,7 +61,7 @@ def behind_types(code, at):
 
 # the head of an impl: the trait, if it is of one, and the type
 IMPL = re.compile(r"(?m)^impl(?:<[^{};]*?>)? (?:([\w:]+(?:<[^{};]*>)?) for )?(\w+)(?:<[^{};]*>)? \{$")
-GHOST_MEMBER, GHOST_FIELD = re.compile(r"(?m)^ +ghost (\w+) = (?=\{)"), re.compile(r"(?m)^ +ghost (\w+): (?=\{)")
+GHOST_MEMBER, GHOST_FIELD = re.compile(r"(?m)^ +ghost (\w+) = (?=\{)"), re.compile(r"(?m)^ +(?:pub(?:\([a-z]+\))? )?ghost (\w+): (?=\{)")
 
 
 @dataclass

@@ -10,7 +10,7 @@ ghost use Rattle.book_format.proofs.BookLaws.{book_size};
 use crate::numbers::two_at;
 use crate::records::{Record, count_place, head_size};
 use book_format::{Edition, Preset};
-use refusals::Refusal;
+use window::Refusal;
 
 // C1, C13: the most bytes of a book.
 pub(crate) const LARGEST: usize = 65535;

@@ -15,7 +15,7 @@ use crate::numbers::put_two;
 use crate::records::head_size;
 use crate::writing::{Contents, write_record};
 use book_format::Edition;
-use refusals::Refusal;
+use window::Refusal;
 
 fn other(edition: Edition) -> Edition
     ensures { result ≡ conversion.other edition }

@@ -8,7 +8,7 @@ ghost use Rattle.book_format.specs.Calls.{checked_book, checked_preset, letters_
 
 use crate::reading::{check_book, check_preset, letters};
 use book_format::{Edition, Preset};
-use refusals::Refusal;
+use window::Refusal;
 
 #[derive(Clone, Copy)]
 pub struct Reader<'a> {

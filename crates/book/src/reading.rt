@@ -6,7 +6,7 @@ ghost use Rattle.book_format.specs.Calls.{checked_book, checked_preset, letters_
 
 use crate::checked::CheckedBook;
 use book_format::{Edition, Preset};
-use refusals::Refusal;
+use window::Refusal;
 
 // I25: the number of presets. Checks 1, 2, 3.
 pub fn check_book(edition: Edition, book: &[u8]) -> Result<usize, Refusal>

@@ -14,7 +14,7 @@ ghost use Rattle.book_format.specs.Conversion.{too_many_lanes, record_conversion
 
 use crate::numbers::two_at;
 use book_format::{Edition, Preset};
-use refusals::{Group, Kind, Refusal, accepted_word, group_of};
+use window::{Group, Kind, Refusal, accepted_word, group_of};
 
 // Where a record has its letter count.
 pub(crate) fn count_place(edition: Edition) -> usize

@@ -10,7 +10,7 @@ ghost use Rattle.book_format.specs.Calls.{checked_book, checked_preset, fields_o
 use crate::checked::{CheckedBook, LARGEST};
 use crate::numbers::copy_to;
 use book_format::{Edition, Preset, Run};
-use refusals::Refusal;
+use window::Refusal;
 
 // The numbers of a preset.
 fn numbers_of(answer: Result<Preset, Refusal>) -> [u64; 5]

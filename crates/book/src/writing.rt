@@ -12,7 +12,7 @@ use crate::checked::{CheckedBook, LARGEST};
 use crate::numbers::{copy_to, put_two};
 use crate::records::{book_group, count_place, head_size, is_retired, put_lanes};
 use book_format::Edition;
-use refusals::{Refusal, Word, accepted_word};
+use window::{Refusal, Word, accepted_word};
 
 // What a record says.
 #[derive(Clone, Copy)]

@@ -11,7 +11,8 @@ use crate::ending::ending_rule;
 use crate::search::levels_of;
 use window::Group;
 
-// The steps that were made, each noted by its family, its place and the length left, as far as the lists go.
+// The steps that were made, each noted by its family, its place and the length left, as far as the lists go. They are
+// three lists and not one of structs because the C interface hands them in so.
 #[derive(Drop)]
 pub(crate) struct Steps<'a> {
     pub(crate) made: usize,

@@ -29,6 +29,7 @@ pub fn rewrite_at(kind: u8, rank: u8, word: &[u8], place: usize, out: &mut [u8])
 {
     let word = match accepted_word(kind, rank, word) {
         Ok(word) => word,
+        // The requirement names the outcome `Rewrite`, in which a refusal is a number.
         Err(refusal) => return Rewrite::Refused(refusal.number()),
     };
     let size = word.letters.len();
@@ -79,13 +80,7 @@ pub fn rewrite_to_end(
     let word = accepted_word(kind, rank, word)?;
     let counted = count(word);
     let steps = counted.steps;
-    if families.len() < steps {
-        return Err(Refusal::ListTooShort);
-    }
-    if places.len() < steps {
-        return Err(Refusal::ListTooShort);
-    }
-    if lengths.len() < steps {
+    if families.len() < steps || places.len() < steps || lengths.len() < steps {
         return Err(Refusal::ListTooShort);
     }
     if out.len() < counted.length {

@@ -9,7 +9,8 @@ ghost use Rattle.rules.proofs.Scan.{next_index, family_at_end, family_at, shown_
 
 use window::{Group, Kind, Word};
 
-// A rule that fits, as a rewrite returns it, with the length of its left side.
+// A rule that fits, as a rewrite returns it, with the length of its left side. Families are the numbers of the
+// requirement, 1 to 7, which the outputs show.
 #[derive(Clone, Copy)]
 pub(crate) struct Fitting {
     pub(crate) family: u8,

@@ -10,8 +10,8 @@ use crate::writing::copy;
 use traces::Rewriting;
 use window::Word;
 
-// The letters of an accepted word read one by one, and each step noted; the final word is left at the front of `work`.
-// Returns how many letters it has.
+// The letters of an accepted word read one by one, and each step noted; the final word is left at the front of `work`,
+// since the library has no heap. Returns how many letters it has.
 fn read(word: Word<'_>, steps: &mut Steps<'_>, work: &mut [u8]) -> usize
     requires none_made { steps.old.made ≡ 0 }
     requires word_in_bounds { length word.letters.now ≤ length work.old }
