@@ -1,4 +1,5 @@
-# Fails if a function that others can call, `pub fn` or one exported to C, has a `requires`. `pub(crate) fn` and private functions may have one.
+# Fails if a function that others can call, `pub fn`, one exported to C or one of an impl of a trait, has a `requires`. `pub(crate) fn` and private functions
+# may have one.
 # Reads Rattle sources word by word, without comments, strings and characters, so their layout does not matter.
 
 FNR == 1 { check_text(); file = FILENAME }
@@ -16,14 +17,26 @@ END {
 
 function check_text(    token, before) {
     line = 1
-    public = exported = 0
+    public = exported = depth = head = of_trait = 0
     name = ""
     while ((token = next_token()) != "") {
+        # An impl of a trait has a `for` in its head, and ends where its brace is closed.
+        if (token == "impl" && depth == 0)
+            head = 1
+        else if (token == "for" && head)
+            head = 2
+        else if (token == "{") {
+            depth++
+            if (head == 2)
+                of_trait = 1
+            head = 0
+        } else if (token == "}" && --depth == 0)
+            of_trait = 0
         if (before == "pub")
             public = token != "("
         if (before == "fn" && token != "(") {
             # A name: from here on up to the next one all belongs to this function.
-            name = public || exported ? token : ""
+            name = public || exported || of_trait ? token : ""
             functions += name != ""
             public = exported = 0
         } else if (token ~ /^[;{}]$/)

@@ -1,7 +1,7 @@
 """Faults of form: what antt or Rattle takes otherwise than the reader of the statements, or an eye."""
 SENTENCES, ORDERS, THEOREMS = "crates/rules/proofs/Sentences.antt", "crates/distribution/proofs/Orders.antt", "crates/coxeter/proofs/Theorems.antt"
 WINDOW, NUMBERS, TEXTS = "crates/window/src/lib.rt", "crates/listing_lines/src/numbers.rt", "crates/messages/specs/Messages.antt"
-YIELDS = "ghost use Rattle.coxeter.specs.Calls.{Yields, window_of_word, product_of_windows, inverse_of_window};"
+YIELDS = "ghost use Rattle.coxeter.specs.Calls.{Yields, writes, window_of_word, product_of_windows, inverse_of_window};"
 ABOVE = "// I4: writes the window of `word`"
 HIDDEN = "hidden(kind: u8) -> u8\n{\n    kind\n}\n\n"
 
@@ -19,13 +19,13 @@ FAULTS = (
     ("an import behind a comment within its line", WINDOW, YIELDS,
      f"// {YIELDS}\nghost /* */ use Rattle.coxeter.proofs.Totals.{{Yields}};\n{YIELDS.replace('Yields, ', '')}", r"/\* is no mark of a comment"),
     ("a comment within a comment", WINDOW, ABOVE, f"// /* /* */\n{ABOVE}", r"/\* is no mark of a comment"),
-    ("a comment behind the code of Rattle", WINDOW, "    let m = v.len();", "    let m = v.len(); // m lanes", r"a comment has lines of its own"),
+    ("a comment behind the code of Rattle", WINDOW, "    Ok(length_of(window))", "    Ok(length_of(window)) // the length", r"a comment has lines of its own"),
     ("a comment of three strokes", WINDOW, ABOVE, f"/// {ABOVE}", r"a comment has lines of its own"),
     ("an edit with a comment", "crates/window/must-fail/identity_for_all_words.edit", "new: ", "new: /* */ ", r"edit:\d+: /\* is no mark of a comment"),
     # texts
     ("a text over two lines", TEXTS, '"The kind must be 1 (A), 2 (B) or 3 (D)."', '"The kind must be\n-- 1 (A), 2 (B) or 3 (D)."', r"a form that is not in use"),
-    ("a text of raw signs", WINDOW, "    let m = v.len();", '    let t = r"\\";\n    let m = v.len();', r"a form that is not in use"),
-    ("a text with a line of strokes", WINDOW, "    let m = v.len();", '    let t = "a\\\n// b";\n    let m = v.len();',
+    ("a text of raw signs", WINDOW, "    Ok(length_of(window))", '    let t = r"\\";\n    Ok(length_of(window))', r"a form that is not in use"),
+    ("a text with a line of strokes", WINDOW, "    Ok(length_of(window))", '    let t = "a\\\n// b";\n    Ok(length_of(window))',
      r"a text of a form that is not in use"),
     ("a function between two quotation marks", NUMBERS, "        out[at + 1] = b'-';", "        out[at + 1] = b'\"'; }} pub fn hidden(k: u8) -> u8 {{ b'\"'",
      r"pub begins no item that the reader knows"),
@@ -34,13 +34,19 @@ FAULTS = (
     ("two imports on a line", WINDOW, YIELDS, f"ghost use Rattle.coxeter.specs.Kinds.{{lanes}}; {YIELDS}", r"ghost begins no item that the reader knows"),
     ("an import over two lines", WINDOW, YIELDS, YIELDS.replace("ghost use", "ghost\nuse"), r"ghost begins no item that the reader knows"),
     ("a function over two lines", WINDOW, ABOVE, f"pub fn\n{HIDDEN}{ABOVE}", r"fn begins no item that the reader knows"),
-    ("a type under another name", WINDOW, "use words::is_shortlex;", "use words::is_shortlex as shortest;", r"use begins no item that the reader knows"),
-    ("a type under another name in braces", WINDOW, "use words::is_shortlex;", "use words::{is_shortlex as shortest};", r"use begins no item that the reader knows"),
-    ("a function of a type", WINDOW, ABOVE, f"impl Answer {{\n    pub fn {HIDDEN}}}\n{ABOVE}", r"impl: a form that is not in use"),
+    ("a type under another name", WINDOW, "use pairs::accepted_pair;", "use pairs::accepted_pair as accepted_windows;", r"use begins no item that the reader knows"),
+    ("a type under another name in braces", WINDOW, "use pairs::accepted_pair;", "use pairs::{accepted_pair as accepted_windows};", r"use begins no item that the reader knows"),
+    ("a function of a type", WINDOW, ABOVE, f"impl Refusal {{\n    pub fn {HIDDEN}}}\n{ABOVE}", r"the public function Refusal::hidden has no clause"),
+    ("a function of a trait's impl", WINDOW, ABOVE, f"impl Hidden for Refusal {{\n    fn {HIDDEN}}}\n{ABOVE}", r"the public function Refusal::hidden has no clause"),
+    ("a trait", WINDOW, ABOVE, f"trait Hidden {{\n    fn {HIDDEN}}}\n{ABOVE}", r"trait: a form that is not in use"),
+    ("a fact of a type that rests on a definition of proofs", "crates/coxeter/src/lib.rt", "(rank ≤ greatest kind) }", "(rank ≤ greatest_of kind) }",
+     r"lib\.rt:\d+: cannot resolve the word greatest_of"),
+    ("an impl within a line", WINDOW, ABOVE, f"const ONE: u8 = 1; impl Refusal {{\n    pub fn {HIDDEN}}}\n{ABOVE}", r"impl begins no item that the reader knows"),
+    ("a ghost member that covers a contract", WINDOW, ABOVE, f"impl Hidden for Refusal {{ ghost said = {{ 1 }};\n    fn {HIDDEN}}}\n{ABOVE}", r"ghost begins no item that the reader knows"),
     ("an attribute", WINDOW, ABOVE, f"#[cfg(any())]\n{ABOVE}", r"#\[cfg\(any\(\)\)\]: a form that is not in use"),
     ("an attribute on the line of its item", WINDOW, ABOVE, f"#[derive(Drop)] struct Hidden;\n\n{ABOVE}", r"#\[derive\(Drop\)\] struct Hidden;: a form that is not in use"),
     ("a derive of a macro", WINDOW, ABOVE, f"#[derive(Hidden)]\nstruct Other;\n\n{ABOVE}", r"#\[derive\(Hidden\)\]: a form that is not in use"),
-    ("a macro", WINDOW, "    let m = v.len();", "    let m = lens!(v);", r"s!: a form that is not in use"),
+    ("a macro", WINDOW, "    Ok(length_of(window))", "    Ok(lengths!(window))", r"s!: a form that is not in use"),
     ("a function for C that only its attribute shows", "crates/c_api_c/src/words.rt", "#[unsafe(no_mangle)]", f"#[unsafe(no_mangle)]\nfn {HIDDEN}#[unsafe(no_mangle)]",
      r"the pages state (\d+) public functions, .* counts: (?!\1\b)\d+"),
     ("a field that covers an imported name", "crates/messages/proofs/Texts.antt", "~$",
@@ -53,7 +59,7 @@ FAULTS = (
      r"statements\.txt:\d+: the sign '\\u0430' is not in use"),
     ("a Cyrillic letter in the list of definitions", "docs/definitions.txt", "coxeter/specs/Kinds: lanes", "coxeter/specs/Kinds: l\u0430nes",
      r"definitions\.txt:\d+: the sign '\\u0430' is not in use"),
-    ("a Cyrillic letter in code", WINDOW, "let m = v.len();", "let \u0440 = v.len();", r"lib\.rt:\d+: the sign '\\u0440' is not in use"),
+    ("a Cyrillic letter in code", WINDOW, "    Ok(length_of(window))", "    let \u0440 = length_of(window);\n    Ok(\u0440)", r"lib\.rt:\d+: the sign '\\u0440' is not in use"),
     ("a Greek letter within a name", "crates/coxeter/specs/Kinds.antt", "lanes", "lαnes", r"the name lαnes has a sign where it may have none"),
     ("a Greek letter before a name", THEOREMS, "window_passes", "κind_passes", r"the name κind_passes has a sign where it may have none"),
     ("an operator's sign within a name", THEOREMS, "window_passes", "window∙passes", r"the name window∙passes has a sign where it may have none"),

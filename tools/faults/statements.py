@@ -113,7 +113,7 @@ FAULTS = (
     ("an entry without a law or a reason", PINS, r"~(coxeter/specs/Kinds: up)\n  .*", r"\1", r": up: there has to be one reason"),
     ("an entry with a law and a reason", PINS, "coxeter/specs/Kinds: up\n", "coxeter/specs/Kinds: up\n  primitive: Numbers.\n", r": up: there has to be one reason"),
     ("an entry with a contract", PINS, "coxeter/specs/Kinds: up\n", "coxeter/specs/Kinds: up\n  window: window_of_word\n", r"cannot read window: window_of_word"),
-    ("a reason with a missing clause", PINS, "to be compared with K2.", "to be compared with K22.", r"definitions\.txt:\d+: the reason names K22, which is no clause"),
+    ("a reason with a missing clause", PINS, "of N9, to be compared", "of N99, to be compared", r"definitions\.txt:\d+: the reason names N99, which is no clause"),
     ("a pinning law that does not exist", PINS, "WindowEntries: at-entries\n", "WindowEntries: at-places\n", r"cites a law at-places of coxeter/proofs/WindowEntries"),
     ("a pinning law that no clause cites", CITED, "at-entries, ", "", r"cites a law at-entries of coxeter/proofs/WindowEntries"),
     ("a law that does not speak of the definition", PINS, "WindowEntries: identity-entries\n", "WindowEntries: product-entries\n",

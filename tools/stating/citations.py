@@ -140,7 +140,7 @@ def cited(text, number):
         match = re.fullmatch(form, text)
         if match:
             return Citation(kind, match.group(1) or "", [name.strip() for name in match.group(2).split(",")], number)
-    contract = re.fullmatch(r"(\w+): ([\w, ]+)", text)
+    contract = re.fullmatch(r"(\w+): ([\w:, ]+)", text)
     if contract:
         return Citation("contract", contract.group(1), [name.strip() for name in contract.group(2).split(",")], number)
     return None

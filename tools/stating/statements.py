@@ -52,7 +52,7 @@ class Model:
     wrong: list = field(default_factory=list)
     statements: dict = field(default_factory=dict)  # (kind, where, name) -> Statement
     definitions: dict = field(default_factory=dict)  # (crate, file, name) -> (declaration, terms)
-    types: dict = field(default_factory=dict)  # (crate, name) -> type of Rattle
+    types: dict = field(default_factory=dict)  # (crate, name) -> the terms of the facts that a type of Rattle states
     rows: list = field(default_factory=list)
     pins: dict = field(default_factory=dict)  # (crate, file, name) -> what pins the definition, or why it is read
     marks: dict = field(default_factory=dict)  # the name of a clause -> whether it is pinned, and by which laws
@@ -72,7 +72,7 @@ class Model:
 
     def terms(self):
         return [term for statement in self.statements.values() for term in statement.terms] + [
-            term for _, terms in self.definitions.values() for term in terms]
+            term for _, terms in self.definitions.values() for term in terms] + [term for terms in self.types.values() for term in terms]
 
 
 def with_comment(declared):
@@ -115,6 +115,7 @@ class Builder:
         self._clauses()
         self._rows()
         self._definitions()
+        self._types()
         for clause, citations in self.model.cited.items():
             for citation in citations:
                 for name in citation.names:
@@ -247,7 +248,7 @@ class Builder:
         self.model.wrong += [f"{path}: a file of a function's proof has no statements"] if OF_FUNCTION.fullmatch(path) else []
         self.model.wrong += [f"{path}:{line}: cannot read {text}" for line, text in file.unread]
         self.model.wrong += [f"{path}:{line}: {said}" for line, said in covering(file.uses)]
-        self.model.wrong += [f"{path}:{line}: a module {name} below a file of statements" for line, name in file.modules]
+        self.model.wrong += [f"{path}:{line}: a module {name} below a file of statements" for line, name in file.modules if file.declarations]
         self.model.wrong += [f"{path}:{line}: another fixity for {name}" for name, line, _ in file.fixities if name not in own]
         if path.split("/")[2] == "specs":
             self.model.wrong += [f"{path}:{use.line}: a file of specs/ imports {use.module}" for use in file.uses
@@ -342,6 +343,17 @@ class Builder:
                     reader.equation(words, declared.name)
                 self.model.wrong += [said.replace("the statement rests", f"{declared.name} rests") for said in reader.wrong]
                 self.model.definitions[crate, name.removesuffix(".antt"), declared.name] = (declared, reader.terms)
+
+    def _types(self):
+        """What is true of every value of a type, as its ghost fields state it of the others."""
+        for crate in self.world.crates:
+            for file in self.world.rattle(crate):
+                for made in (one for one in file.types if one.public and one.ghosts):
+                    reader = Reader(Scope(self.world, file.path, file.ghosts, [], file), self.fields)
+                    for fact in made.ghosts:
+                        reader.statement(fact, made.fields)
+                    self.model.wrong += reader.wrong
+                    self.model.types[crate, made.name] = reader.terms
 
     def _functions(self):
         """Every public function has a clause that cites its contract; it asks nothing of its caller, and says what it returns and writes."""

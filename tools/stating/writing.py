@@ -18,8 +18,8 @@ PRINTING = "public function"
 
 
 def kind_of(statement):
-    """The kind of a statement. A public function that returns and writes nothing has no `ensures`: it is no contract."""
-    return PRINTING if statement.kind == "contract" and "ensures" not in statement.text else statement.kind
+    """The kind of a statement. A public function that returns and writes nothing has no `ensures`, nor a ghost member that says something: it is no contract."""
+    return PRINTING if statement.kind == "contract" and not re.search(r"\bensures\b|^ +ghost ", statement.text, re.M) else statement.kind
 
 
 class Writer:

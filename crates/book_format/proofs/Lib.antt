@@ -26,3 +26,4 @@ pub mod RunsOfPresets
 pub mod ConversionRecords
 pub mod ConversionSentences
 pub mod AppendingSentences
+pub mod Results

@@ -22,6 +22,9 @@ use Rattle.coxeter.specs.declared.Kind.TheVariants.{A, B, D}
 use Rattle.coxeter.specs.Kinds.{pick, kind_of}
 use Rattle.coxeter.specs.Checks.{◌then◌, wrong_kind, wrong_rank, rank_refusal, word_refusal}
 use Rattle.coxeter.specs.answers.Counted.{Counted}
+use Rattle.coxeter.specs.answers.Verdict.{Verdict}
+use Rattle.coxeter.specs.answers.Choice.{Choice}
+use Rattle.coxeter.specs.Length.{Crossings}
 use Rattle.coxeter.specs.Calls.{counted_of, crossings_of_window, crossings_of_word, verdict_of, presets_equal, hands_back, choice}
 use Rattle.coxeter.specs.Calls.{Outcome, answer_of, written, writes, window_of_word, product_of_windows, inverse_of_window}
 use Rattle.coxeter.specs.Calls.{normal_form_of_window, normal_form_of_word, product_of_words, inverse_of_word, length_of_window, length_of_word}
@@ -34,7 +37,7 @@ use Rattle.book_format.proofs.RankLaws.{book_rank_refusal-refused}
 use Rattle.distribution.specs.Calls.{table_refusal, table_of, tables, delay_table}
 use Rattle.messages.specs.Messages.{refusal_message}
 use Rattle.messages.proofs.Texts.{unknown_alike}
-use Rattle.c_api.specs.Calls.{number_of, numbered, rewriting, crossing_numbers, listed}
+use Rattle.c_api.specs.Calls.{number_of, numbered, verdict_number, choice_number, rewriting, crossing_numbers, listed}
 use Rattle.c_api.proofs.Lengths.{answered, i64_back, numbers_alike}
 
 -- ---- kinds and ranks
@@ -55,10 +58,6 @@ rank_refusal_kind k n h = rw h
 rank_refusal_rank : (k n : ℕ) → wrong_kind k ≡ false → wrong_rank (kind_of k) n ≡ true → rank_refusal k n ≡ 6
 unfolding rank_refusal
 rank_refusal_rank k n h w = rw (h, w)
-
-wrong_kind-above_landed : (k : ℕ) → 255 < k → wrong_kind k ≡ true
-unfolding wrong_kind
-wrong_kind-above_landed k h = rw (ne_eqb k 1 (omega arith), ne_eqb k 2 (omega arith), ne_eqb k 3 (omega arith))
 
 wrong_rank_zero : (k : Kind) → wrong_rank k 0 ≡ true
 unfolding wrong_rank
@@ -127,49 +126,62 @@ verdict_refused_alike {r} a b e f = rw (e, ne_eqb r 0 f) refl
 
 -- ---- the calls
 
+-- calls that check kind and rank first: s are their other checks
+module _ (s : ℕ → ℕ → ℕ) where
+  writes_refusable : {X : Type 0} (u : ℕ → ℕ → List X) (out : List X) → Refusable (λ k n. writes (rank_refusal k n then s k n) (u k n) out)
+  writes_refusable u out = record { refused_same = λ k n l m e f. writes_alike 0 (s l m) (s k n) (u l m) (u k n) out e f }
+
+  answers_refusable : (x : ℕ → ℕ → ℕ) → Refusable (λ k n. answer_of (rank_refusal k n then s k n) (x k n))
+  unfolding answer_of
+  answers_refusable x = record { refused_same = λ k n l m e f. simp (e, ne_eqb (rank_refusal k n) 0 f) }
+
+  counts_refusable : (x : ℕ → ℕ → Crossings) → Refusable (λ k n. counted_of (rank_refusal k n then s k n) (x k n))
+  unfolding counted_of
+  counts_refusable x = record { refused_same = λ k n l m e f. simp (e, ne_eqb (rank_refusal k n) 0 f) }
+
 pub window_of_word_refusable : (u : List ℕ) (out : List ℤ) → Refusable (λ k n. window_of_word k n u out)
 unfolding window_of_word
-window_of_word_refusable u out = record { refused_same = λ k n l m e f. writes_alike 0 _ _ _ _ out e f }
+window_of_word_refusable u out = writes_refusable _ _ _
 
 pub normal_form_of_word_refusable : (u out : List ℕ) → Refusable (λ k n. normal_form_of_word k n u out)
 unfolding normal_form_of_word
-normal_form_of_word_refusable u out = record { refused_same = λ k n l m e f. writes_alike 0 _ _ _ _ out e f }
+normal_form_of_word_refusable u out = writes_refusable _ _ _
 
 pub product_of_words_refusable : (u v out : List ℕ) → Refusable (λ k n. product_of_words k n u v out)
 unfolding product_of_words
-product_of_words_refusable u v out = record { refused_same = λ k n l m e f. writes_alike 0 _ _ _ _ out e f }
+product_of_words_refusable u v out = writes_refusable _ _ _
 
 pub inverse_of_word_refusable : (u out : List ℕ) → Refusable (λ k n. inverse_of_word k n u out)
 unfolding inverse_of_word
-inverse_of_word_refusable u out = record { refused_same = λ k n l m e f. writes_alike 0 _ _ _ _ out e f }
+inverse_of_word_refusable u out = writes_refusable _ _ _
 
 pub length_of_word_refusable : (u : List ℕ) → Refusable (λ k n. length_of_word k n u)
-unfolding length_of_word answer_of
-length_of_word_refusable u = record { refused_same = λ k n l m e f. simp (e, ne_eqb (rank_refusal k n) 0 f) }
+unfolding length_of_word
+length_of_word_refusable u = answers_refusable _ _
 
 pub crossings_of_word_refusable : (u : List ℕ) → Refusable (λ k n. crossings_of_word k n u)
-unfolding crossings_of_word counted_of
-crossings_of_word_refusable u = record { refused_same = λ k n l m e f. simp (e, ne_eqb (rank_refusal k n) 0 f) }
+unfolding crossings_of_word
+crossings_of_word_refusable u = counts_refusable _ _
 
 pub normal_form_of_window_refusable : (w : List ℤ) (out : List ℕ) → Refusable (λ k n. normal_form_of_window k n w out)
 unfolding normal_form_of_window
-normal_form_of_window_refusable w out = record { refused_same = λ k n l m e f. writes_alike 0 _ _ _ _ out e f }
+normal_form_of_window_refusable w out = writes_refusable _ _ _
 
 pub product_of_windows_refusable : (u v out : List ℤ) → Refusable (λ k n. product_of_windows k n u v out)
 unfolding product_of_windows
-product_of_windows_refusable u v out = record { refused_same = λ k n l m e f. writes_alike 0 _ _ _ _ out e f }
+product_of_windows_refusable u v out = writes_refusable _ _ _
 
 pub inverse_of_window_refusable : (w out : List ℤ) → Refusable (λ k n. inverse_of_window k n w out)
 unfolding inverse_of_window
-inverse_of_window_refusable w out = record { refused_same = λ k n l m e f. writes_alike 0 _ _ _ _ out e f }
+inverse_of_window_refusable w out = writes_refusable _ _ _
 
 pub length_of_window_refusable : (w : List ℤ) → Refusable (λ k n. length_of_window k n w)
-unfolding length_of_window answer_of
-length_of_window_refusable w = record { refused_same = λ k n l m e f. simp (e, ne_eqb (rank_refusal k n) 0 f) }
+unfolding length_of_window
+length_of_window_refusable w = answers_refusable _ _
 
 pub crossings_of_window_refusable : (w : List ℤ) → Refusable (λ k n. crossings_of_window k n w)
-unfolding crossings_of_window counted_of
-crossings_of_window_refusable w = record { refused_same = λ k n l m e f. simp (e, ne_eqb (rank_refusal k n) 0 f) }
+unfolding crossings_of_window
+crossings_of_window_refusable w = counts_refusable _ _
 
 -- a record's kind and rank that a call refuses are refused alike
 pub appending_refusable : (ed : Edition) (b u out : List ℕ) → Refusable (λ k n. appending ed b k n u out)
@@ -208,18 +220,26 @@ pub record AreBytes (k n l m : ℕ) : Type 0 where
   pub kind : l ≡ byte_of k
   pub rank : m ≡ byte_of n
 
-pub verdict_as_bytes : {k n k₂ n₂ l m l₂ m₂ : ℕ} (u v : List ℕ) → AreBytes k n l m → AreBytes k₂ n₂ l₂ m₂
+verdict_as_bytes : {k n k₂ n₂ l m l₂ m₂ : ℕ} (u v : List ℕ) → AreBytes k n l m → AreBytes k₂ n₂ l₂ m₂
     → presets_equal l m u l₂ m₂ v ≡ presets_equal k n u k₂ n₂ v
 verdict_as_bytes {k} {n} {k₂} {n₂} {l} {m} {l₂} {m₂} u v a b =
     as_bytes (first_refusable u l₂ m₂ v) k n l m a.kind a.rank ∙ as_bytes (second_refusable k n u v) k₂ n₂ l₂ m₂ b.kind b.rank
+
+-- z is the number of the verdict a on the bytes
+pub verdict_numbered : (k n k₂ n₂ : ℕ) (u v : List ℕ) {l m l₂ m₂ : ℕ} {a : Verdict} {z : ℤ} → l ≡ byte_of k → m ≡ byte_of n → l₂ ≡ byte_of k₂ → m₂ ≡ byte_of n₂
+    → a ≡ presets_equal l m u l₂ m₂ v → z ≡ verdict_number a → z ≡ verdict_number (presets_equal k n u k₂ n₂ v)
+verdict_numbered k n k₂ n₂ u v b c b₂ c₂ e f =
+    f ∙ ap verdict_number (e ∙ verdict_as_bytes u v (record { kind = b; rank = c }) (record { kind = b₂; rank = c₂ }))
 
 better_refusable : (u v : List ℕ) → Refusable (λ k n. hands_back k n u v)
 unfolding hands_back
 better_refusable u v = record { refused_same = λ k n l m e f. rw (e, ne_eqb (rank_refusal k n) 0 f) (rw (ne_eqb (rank_refusal k n) 0 f) refl) }
 
-pub choice_as_bytes : (k n : ℕ) (u v : List ℕ) (second : Bool) {l m : ℕ} → l ≡ byte_of k → m ≡ byte_of n
-    → choice (hands_back l m u v) second ≡ choice (hands_back k n u v) second
-choice_as_bytes k n u v second {l} {m} a b = ap (λ (hands : Bool). choice hands second) (as_bytes (better_refusable u v) k n l m a b)
+-- z is the number of the choice a by the bytes
+pub choice_numbered : (k n : ℕ) (u v : List ℕ) (second : Bool) {l m : ℕ} {a : Choice} {z : ℤ} → l ≡ byte_of k → m ≡ byte_of n
+    → a ≡ choice (hands_back l m u v) second → z ≡ choice_number a → z ≡ choice_number (choice (hands_back k n u v) second)
+choice_numbered k n u v second {l} {m} b c e f =
+    f ∙ ap choice_number (e ∙ ap (λ (hands : Bool). choice hands second) (as_bytes (better_refusable u v) k n l m b c))
 
 pub rewriting_refusable : (u : List ℕ) (p : ℕ) (out rule : List ℕ) → Refusable (λ k n. rewriting k n u p out rule)
 unfolding rewriting rewrite_at
@@ -236,16 +256,16 @@ pub yielded : {X : Type 0} {F : ℕ → ℕ → Outcome X} → Refusable F → (
     → mag z < 9223372036854775808 → z ≡ number_of a → (a ≡ (F l m).answer) × (after ≡ (F l m).bytes) → (to_z w64 (of_z w64 z), after) ≡ numbered (F k n)
 yielded r k n {l} {m} {z} {a} {after} e f h q b = numbers_alike z a after _ h q (rw (as_bytes r k n l m e f) at b)
 
--- and a call that counts answered a, whose numbers went to a list
-pub crossings_as_bytes : {F : ℕ → ℕ → Counted} → Refusable F → {k n l m : ℕ} {a : Counted} (list : List ℕ) {z : ℤ} {after : List ℕ} → AreBytes k n l m
-    → mag z < 9223372036854775808 → (z, after) ≡ listed (crossing_numbers a) list → a ≡ F l m
+-- and a call that counts answered a, whose numbers went to a list with the number x
+pub crossings_as_bytes : {F : ℕ → ℕ → Counted} → Refusable F → (k n : ℕ) (list : List ℕ) {l m : ℕ} {a : Counted} {x z : ℤ} {after : List ℕ} → l ≡ byte_of k → m ≡ byte_of n
+    → mag z < 9223372036854775808 → z ≡ x → (x, after) ≡ listed (crossing_numbers a) list → a ≡ F l m
     → (to_z w64 (of_z w64 z), after) ≡ listed (crossing_numbers (F k n)) list
-crossings_as_bytes f {k} {n} {l} {m} list {z} e h s b = rw (← (b ∙ as_bytes f k n l m e.kind e.rank), i64_back z h) s
+crossings_as_bytes f k n list {l} {m} {z = z} b c h e s d = rw (← (d ∙ as_bytes f k n l m b c), i64_back z h, e) s
 
--- and a call whose number is z left y
-pub as_bytes_back : {Y : Type 0} {F : ℕ → ℕ → ℤ × Y} → Refusable F → (k n : ℕ) {l m : ℕ} (z : ℤ) (y : Y) → l ≡ byte_of k → m ≡ byte_of n
-    → mag z < 9223372036854775808 → (z, y) ≡ F l m → (to_z w64 (of_z w64 z), y) ≡ F k n
-as_bytes_back r k n {l} {m} z y e f h q = rw (i64_back z h) (q ∙ as_bytes r k n l m e f)
+-- and a call whose number is x left y
+pub as_bytes_back : {Y : Type 0} {F : ℕ → ℕ → ℤ × Y} → Refusable F → (k n : ℕ) {l m : ℕ} {x z : ℤ} (y : Y) → l ≡ byte_of k → m ≡ byte_of n
+    → mag z < 9223372036854775808 → z ≡ x → (x, y) ≡ F l m → (to_z w64 (of_z w64 z), y) ≡ F k n
+as_bytes_back r k n {l} {m} {z = z} y b c h e q = rw (i64_back z h, e) (q ∙ as_bytes r k n l m b c)
 
 -- ---- refusals of 32 bits: a number that is no byte has no message, as 0 has none
 

@@ -1,11 +1,10 @@
--- Every length that a call for C answers fits an `i64`: it is at most that of the longest book, by the checks that
--- were made before.
+-- Every length that a call for C answers fits an `i64`, by the checks that were made before.
 --
 -- Sections: numbers; answers; the window layer; the layers above it.
 -- Assumes nothing.
 use mathlib.Core.Path.{◌≡◌, refl, sym, ap, subst, ◌∙◌}
 use mathlib.Core.List.{List, ◌++◌}
-use Prim.Native.Nat.{ℕ, zero, suc, ◌-◌, ◌/◌, ◌≤◌, ◌<◌, min}
+use Prim.Native.Nat.{ℕ, zero, suc, ◌+◌, ◌-◌, ◌/◌, ◌^◌, ◌≤◌, ◌<◌, min}
 use native.Mathlib.Decide.{ℕ_discrete}
 use native.Mathlib.Nat.{le_trans}
 use native.Mathlib.Omega.{arith}
@@ -16,7 +15,13 @@ use mir.Syntax.{w64}
 use mir.Val.{SFits, to_z, of_z}
 use mir.ValLaws.{to_z-of_z, to_z_pos}
 use borrow.Author.Tests.{ne_eqb}
-use Rattle.coxeter.specs.answers.Answer.{Answer}
+use Rattle.std.specs.Prelude.{Result, Ok, Err, IsErr, IsErrAnd, IfOk}
+use Rattle.coxeter.specs.declared.Refusal.{Refusal}
+use Rattle.coxeter.specs.declared.Refusal.TheVariants.{OutputTooShort}
+use Rattle.coxeter.specs.Refusals.{number}
+use Rattle.coxeter.specs.declared.LengthCounts.{LengthCounts}
+use Rattle.coxeter.specs.answers.Answer.{Answer, as_answer}
+use Rattle.coxeter.specs.answers.Counted.{Counted, as_counted}
 use Rattle.coxeter.specs.answers.Answer as answer
 use Rattle.coxeter.specs.Kinds.{kind_of}
 use Rattle.coxeter.specs.Windows.{window, product, inverse}
@@ -34,6 +39,8 @@ use Rattle.coxeter.proofs.PairWeights.{window_length_le_4096}
 use Rattle.coxeter.proofs.Lengths.{length-normal_form}
 use Rattle.coxeter.proofs.AnswersExactly.{answer_of_exactly}
 use Rattle.coxeter.proofs.TestLaws.{impossible}
+use Rattle.coxeter.proofs.Groups.{number_positive}
+use Rattle.coxeter.proofs.Totals.{SmallTotal}
 use Rattle.rules.specs.declared.Rewrite.{Rewrite}
 use Rattle.rules.specs.declared.Rewrite.TheVariants.{Used, Refused}
 use Rattle.rules.specs.Calls.{past_end, rewrite_at, Rewrote, single}
@@ -47,7 +54,7 @@ use Rattle.distribution.proofs.Firsts.{table_of_exactly}
 use Rattle.distribution.proofs.Longest.{longest_accepted}
 use Rattle.distribution.proofs.Outcomes.{table_accepted, table_rank}
 use Rattle.book_format.specs.declared.Edition.{Edition}
-use Rattle.book_format.specs.answers.Opened.{Opened}
+use Rattle.book_format.specs.answers.Opened.{Opened, as_opened}
 use Rattle.book_format.specs.answers.Opened as opened
 use Rattle.book_format.specs.Books.{count, no_such_preset, book_refusal, appended, append_refusal}
 use Rattle.book_format.specs.Calls.{checked_book, run_length, reading_presets, appending}
@@ -58,13 +65,16 @@ use Rattle.book_format.proofs.WritingLaws.{append_size}
 use Rattle.book_format.proofs.Converting.{conversion_small}
 use Rattle.messages.specs.Messages.{message, refusal_message}
 use Rattle.messages.proofs.Texts.{length-message}
-use Rattle.c_api.specs.Calls.{refused, number_of, numbered}
+use Rattle.c_api.specs.Calls.{refused, number_of, numbered, opened_number}
 
 -- ---- numbers
 
 -- a length as an `i64`
-pub size_back : (l : ℕ) → l ≤ 65535 → to_z w64 l ≡ pos l
-size_back l h = to_z_pos w64 l (omega arith)
+pub length-fits : (l : ℕ) → l < 2 ^ 63 → SFits w64 (pos l)
+length-fits l h = record { sfits = omega arith }
+
+pub length_back : (l : ℕ) → l < 2 ^ 63 → to_z w64 l ≡ pos l
+length_back l h = to_z_pos w64 l (omega arith)
 
 negate_fits : (k : ℕ) → k < 256 → SFits w64 (neg_ℤ (pos k))
 negate_fits zero h = record { sfits = omega arith }
@@ -72,10 +82,7 @@ negate_fits (suc k) h = record { sfits = omega arith }
 
 -- `-k` for a cast byte
 minus_is : (k : ℕ) → k < 256 → pos 0 -ℤ to_z w64 k ≡ neg_ℤ (pos k)
-minus_is k h = rw (size_back k (omega arith)) (+ℤ_idl (neg_ℤ (pos k)))
-
-pub refusal-fits : (k : ℕ) → k < 256 → SFits w64 (pos 0 -ℤ to_z w64 k)
-refusal-fits k h = rw (minus_is k h) (negate_fits k h)
+minus_is k h = rw (to_z_pos w64 k (omega arith)) (+ℤ_idl (neg_ℤ (pos k)))
 
 pub refusal_back : (k : ℕ) → k < 256 → to_z w64 (of_z w64 (pos 0 -ℤ to_z w64 k)) ≡ refused k
 unfolding refused
@@ -84,6 +91,22 @@ refusal_back k h = rw (minus_is k h) (to_z-of_z w64 (neg_ℤ (pos k)) (negate_fi
 -- a number that a call has answered
 pub i64_back : (z : ℤ) → mag z < 9223372036854775808 → to_z w64 (of_z w64 z) ≡ z
 i64_back z h = to_z-of_z w64 z (record { sfits = h })
+
+-- the number of the result that `?` makes of a refusal
+pub handed_on : (r : Result ℕ Refusal) (e : Refusal) → IsErr r × IsErrAnd r (λ (x : Refusal). x ≡ e) → number_of (as_answer r) ≡ refused (number e)
+unfolding number_of
+handed_on (Ok x) e h = absurd h.1
+handed_on (Err x) e h = ap (λ (y : Refusal). refused (number y)) h.1
+
+-- the number of a result that refuses with 14
+pub no_room : (r : Result ℕ Refusal) (e : Refusal) → IsErr r × IsErrAnd r (λ (x : Refusal). x ≡ e)
+    → {T : Type 0} {y : Result T Refusal} → y ≡ Err e → y ≡ Err OutputTooShort → number_of (as_answer r) ≡ refused 14
+no_room r e h f g = let q : e ≡ OutputTooShort = cc in handed_on r e h ∙ ap (λ (x : Refusal). refused (number x)) q
+
+-- the same for a call whose list has no room: its refusal comes before check 14
+pub handed_first : (r : Result ℕ Refusal) (e : Refusal) → IsErr r × IsErrAnd r (λ (x : Refusal). x ≡ e)
+    → number_of (as_answer r) ≡ refused (number e then 14)
+handed_first r e h = rw (ne_eqb (number e) 0 (number_positive e)) (handed_on r e h)
 
 pub answered : (z : ℤ) (a b : Answer) → mag z < 9223372036854775808 → z ≡ number_of a → a ≡ b → to_z w64 (of_z w64 z) ≡ number_of b
 answered z a b h e q = i64_back z h ∙ e ∙ ap number_of q
@@ -95,9 +118,9 @@ numbers_alike z a after o h e q = rw (i64_back z h, e, q.0, q.1)
 
 -- ---- answers
 
--- a length that an answer gives is at most that of the longest book
+-- an `i64` holds the length that an answer gives
 abbrev pub Small : Answer → Type 0
-Small a = (l : ℕ) → a ≡ answer.Length l → l ≤ 65535
+Small a = (l : ℕ) → a ≡ answer.Length l → l < 2 ^ 63
 
 answer_of_small : (r m : ℕ) → (r ≡ 0 → m ≤ 65535) → Small (answer_of r m)
 answer_of_small r m h l e = let p = ((answer_of_exactly r m).1 l).0 e in omega (arith, h p.0, p.1)
@@ -107,6 +130,17 @@ unfolding writes
 writes_small r l out h =
     let short = check 14 (too_short (length l) out) in
     answer_of_small (r then short) (length l) (λ z. h (then_zero r short z).0)
+
+-- so the length of a result that is such an answer fits
+pub fits : (r : Result ℕ Refusal) {a : Answer} → as_answer r ≡ a → Small a → IfOk r (λ (l : ℕ). l < 2 ^ 63)
+fits (Ok l) e s = s l (sym e)
+fits (Err r) e s = tt
+
+-- and the total of counts that are such ones
+pub total_fits : (r : Result LengthCounts Refusal) {a : Counted} → as_counted r ≡ a → SmallTotal a
+    → IfOk r (λ (c : LengthCounts). c.inversions + c.negative_sum_pairs + c.negatives < 2 ^ 63)
+total_fits (Ok c) e s = let m = s c.inversions c.negative_sum_pairs c.negatives (sym e) in omega (arith, m)
+total_fits (Err r) e s = tt
 
 -- ---- the window layer
 
@@ -241,6 +275,16 @@ presets_small ed b a c e q =
     let p = ((checked_book_exactly ed b).1 c).0 (sym e ∙ q) in
     let a = accepted ed b p.0 in
     omega arith
+
+pub presets-fit : (ed : Edition) (b : List ℕ) (r : Result ℕ Refusal) → as_opened r ≡ checked_book ed b → IfOk r (λ (c : ℕ). c < 2 ^ 63)
+presets-fit ed b (Ok c) e = omega (arith, presets_small ed b (opened.Presets c) c e refl)
+presets-fit ed b (Err r) e = tt
+
+-- the number of presets as the number of a length
+pub opened_numbered : (r : Result ℕ Refusal) → number_of (as_answer r) ≡ opened_number (as_opened r)
+unfolding number_of opened_number
+opened_numbered (Ok c) = refl
+opened_numbered (Err r) = refl
 
 -- a message has at most 255 characters
 pub refusal_message_small : (k : ℕ) (out : List ℕ) → Small (refusal_message k out).answer

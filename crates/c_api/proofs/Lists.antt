@@ -6,22 +6,22 @@
 -- Assumes nothing.
 use mathlib.Core.Path.{◌≡◌, refl, ap, ◌∙◌}
 use mathlib.Core.Bool.{Bool, true, false}
-use mathlib.Core.List.{List, [], ◌∷◌}
+use mathlib.Core.List.{List, [], ◌∷◌, ◌++◌}
 use mathlib.Core.Logic.{◌⊎◌, inl, inr}
 use Prim.Native.Nat.{ℕ, suc, ◌+◌, ◌≤◌, ◌<◌}
 use native.Mathlib.Decide.{ℕ_discrete}
 use native.Mathlib.Omega.{arith}
 use lib.Dec.{eqb}
 use lib.IntN.{ℤ, pos}
-use lib.ListN.{length}
-use lib.Seq.{sets}
+use lib.ListN.{length, drop}
 use borrow.Author.Tests.{ne_eqb, lt-ltb, le-ltb}
+use Rattle.std.specs.Array.{IsFirstChunk}
+use Rattle.std.proofs.lemmas.List.{take-append-drop}
 use Rattle.coxeter.specs.answers.Counted.{Counted}
 use Rattle.coxeter.specs.answers.Counted as counted
 use Rattle.coxeter.specs.Kinds.{pick}
 use Rattle.coxeter.specs.Checks.{check, ◌then◌, too_short}
 use Rattle.coxeter.specs.Calls.{front}
-use Rattle.coxeter.proofs.FrontLaws.{sets-front}
 use Rattle.rules.specs.declared.Rewrite.{Rewrite}
 use Rattle.rules.specs.declared.Rewrite.TheVariants as rewrite
 use Rattle.shortest_words.specs.answers.Split.{Split}
@@ -86,13 +86,18 @@ preset-numbers (preset.Refused k) = alone k (k, refl)
 -- ---- a list with room
 
 module _ (z : ℤ) (l list : List ℕ) where
-  pub listed_stored : length l ≤ length list → (z, sets list 0 l) ≡ listed (z, l) list
-  unfolding listed too_short
-  listed_stored h = rw (le-ltb (length list) (length l) h, sets-front l list h)
+  pub listed_stored : length l ≤ length list → (z, l ++ drop (length l) list) ≡ listed (z, l) list
+  unfolding front listed too_short
+  listed_stored h = rw (le-ltb (length list) (length l) h)
 
-  pub beside_stored : {Outputs : Type 0} (new old : Outputs) → length l ≤ length list → (z, (new, sets list 0 l)) ≡ listed_beside (z, l) new old list
-  unfolding listed_beside too_short
-  beside_stored new old h = rw (le-ltb (length list) (length l) h, sets-front l list h)
+  pub beside_stored : {Outputs : Type 0} (new old : Outputs) → length l ≤ length list
+      → (z, (new, l ++ drop (length l) list)) ≡ listed_beside (z, l) new old list
+  unfolding front listed_beside too_short
+  beside_stored new old h = rw (le-ltb (length list) (length l) h)
+
+-- a front that was taken to be written, and was not
+pub front_kept : {m : ℕ} {taken list : List ℕ} → IsFirstChunk list taken m → taken ++ drop m list ≡ list
+front_kept {m} {taken} {list} h = rw h.same (take-append-drop m list)
 
 -- and where no number goes there
 pub listed_alone : (z : ℤ) (list : List ℕ) → (z, list) ≡ listed (z, []) list

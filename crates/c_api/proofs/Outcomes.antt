@@ -5,7 +5,7 @@
 -- Assumes nothing.
 use mathlib.Core.Path.{◌≡◌, refl, ◌∙◌}
 use mathlib.Core.Bool.{Bool, true, false}
-use mathlib.Core.List.{List, [], ◌∷◌, ◌++◌}
+use mathlib.Core.List.{List, [], ◌∷◌}
 use mathlib.Core.Option.{Option, none, some}
 use mathlib.Core.Logic.{◌⊎◌, ⊎_elim}
 use Prim.Native.Nat.{ℕ, ◌+◌, ◌≤◌, ◌<◌}
@@ -14,8 +14,7 @@ use native.Mathlib.Decide.{dec_le}
 use native.Mathlib.Omega.{arith}
 use lib.Dec.{eqb, leb}
 use lib.IntN.{ℤ, pos}
-use lib.ListN.{length}
-use lib.Seq.{sets}
+use lib.ListN.{length, drop}
 use borrow.Author.Tests.{lt-ltb, le-ltb, lt-leb, le-leb}
 use Rattle.coxeter.specs.answers.Counted.{Counted}
 use Rattle.coxeter.specs.answers.Counted as counted
@@ -35,34 +34,33 @@ use Rattle.c_api.proofs.Lists.{beside_stored, beside_alone, beside_roomless}
 
 -- ---- counts and fields
 
-module _ (x : Counted) (list : List ℕ) where
-  pub crossings-refused : (z : ℤ) (r : ℕ) → x ≡ counted.Refused r → z ≡ refused r → (z, list) ≡ listed (crossing_numbers x) list
+pub crossings-refused : (r : ℕ) (list : List ℕ) {z : ℤ} → z ≡ refused r → (z, list) ≡ listed (crossing_numbers (counted.Refused r)) list
+unfolding crossing_numbers
+crossings-refused r list e = rw (← e) (listed_alone _ list)
+
+module _ (a b c : ℕ) (list : List ℕ) where
+  pub crossings-short : {z : ℤ} → length list < 3 → z ≡ refused 14 → (z, list) ≡ listed (crossing_numbers (counted.Crossings a b c)) list
   unfolding crossing_numbers
-  crossings-refused z r q e = rw (q, ← e) (listed_alone z list)
+  crossings-short h e = rw e (listed-short (pos (a + b + c)) (a ∷ b ∷ c ∷ []) list h)
 
-  module _ (a b c : ℕ) (q : x ≡ counted.Crossings a b c) where
-    pub crossings-short : length list < 3 → (refused 14, list) ≡ listed (crossing_numbers x) list
-    unfolding crossing_numbers
-    crossings-short h = rw q (listed-short (pos (a + b + c)) (a ∷ b ∷ c ∷ []) list h)
+  pub crossings_stored : 3 ≤ length list → (pos (a + b + c), a ∷ b ∷ c ∷ drop 3 list) ≡ listed (crossing_numbers (counted.Crossings a b c)) list
+  unfolding crossing_numbers
+  crossings_stored h = listed_stored (pos (a + b + c)) (a ∷ b ∷ c ∷ []) list h
 
-    pub crossings_stored : {z : ℤ} → 3 ≤ length list → z ≡ pos (a + b + c) → (z, sets list 0 (a ∷ b ∷ c ∷ [])) ≡ listed (crossing_numbers x) list
-    unfolding crossing_numbers
-    crossings_stored {z} h e = rw (q, ← e) (listed_stored z (a ∷ b ∷ c ∷ []) list h)
-
--- the call below answered a, which is its definition d
-module _ {a d : Preset} (list : List ℕ) (e : a ≡ d) where
-  pub fields_refused : (z : ℤ) (r : ℕ) → a ≡ preset.Refused r → z ≡ refused r → (z, list) ≡ listed (preset_numbers d) list
+-- d is what the call below answers
+module _ {d : Preset} (list : List ℕ) where
+  pub fields_refused : {r : ℕ} {z : ℤ} → preset.Refused r ≡ d → z ≡ refused r → (z, list) ≡ listed (preset_numbers d) list
   unfolding preset_numbers
-  fields_refused z r q f = rw (← e, q, ← f) (listed_alone z list)
+  fields_refused q e = rw (← q, ← e) (listed_alone _ list)
 
-  module _ (k n s l : ℕ) (q : a ≡ preset.Found k n s l) where
-    pub fields_short : length list < 4 → (refused 14, list) ≡ listed (preset_numbers d) list
+  module _ {k n s l : ℕ} (q : preset.Found k n s l ≡ d) where
+    pub fields_short : {z : ℤ} → length list < 4 → z ≡ refused 14 → (z, list) ≡ listed (preset_numbers d) list
     unfolding preset_numbers
-    fields_short h = rw (← e, q) (listed-short (pos 4) (k ∷ n ∷ s ∷ l ∷ []) list h)
+    fields_short h e = rw (← q, e) (listed-short (pos 4) (k ∷ n ∷ s ∷ l ∷ []) list h)
 
-    pub fields_stored : 4 ≤ length list → (pos 4, sets list 0 (k ∷ n ∷ s ∷ l ∷ [])) ≡ listed (preset_numbers d) list
+    pub fields_stored : 4 ≤ length list → (pos 4, k ∷ n ∷ s ∷ l ∷ drop 4 list) ≡ listed (preset_numbers d) list
     unfolding preset_numbers
-    fields_stored h = rw (← e, q) (listed_stored (pos 4) (k ∷ n ∷ s ∷ l ∷ []) list h)
+    fields_stored h = rw (← q) (listed_stored (pos 4) (k ∷ n ∷ s ∷ l ∷ []) list h)
 
 -- ---- one rewrite
 
@@ -91,7 +89,7 @@ rewriting-listed k n u p out rule = rewriting-listed_by_cases (eqb r 0) (first_f
 
 module _ {k n : ℕ} {u : List ℕ} {p : ℕ} {out after : List ℕ} (rule : List ℕ) {a : Rewrite} (w : Rewrote single k n u p out after a) (z : ℤ) where
   pub rewriting_used : {f i j l : ℕ} → a ≡ Used f i j l → 3 ≤ length rule → z ≡ pos l
-      → (z, (after, sets rule 0 (f ∷ i ∷ j ∷ []))) ≡ rewriting k n u p out rule
+      → (z, (after, f ∷ i ∷ j ∷ drop 3 rule)) ≡ rewriting k n u p out rule
   unfolding rewrite_numbers
   rewriting_used {f} {i} {j} q h e =
       rw (rewriting-listed k n u p out rule, ← w.answer, ← w.outputs, q, ← e) (beside_stored z (f ∷ i ∷ j ∷ []) rule after out h)
@@ -150,12 +148,7 @@ pub rewriting_narrow : {k n : ℕ} {u : List ℕ} {p : ℕ} {after : List ℕ} {
     → roomless (rewrite_numbers a) ≡ (rewriting k n u p [] []).0
 rewriting_narrow {k} {n} {u} {p} w = rw (rewriting-without k n u p [] [] (omega arith), ← w.answer)
 
-pub rewriting-roomless : (k n : ℕ) (u : List ℕ) (p : ℕ) {out : List ℕ} (rule : List ℕ) {z : ℤ} {after : List ℕ} → length rule < 3
-    → z ≡ (rewriting k n u p [] []).0 → after ≡ out → (z, (after, rule)) ≡ rewriting k n u p out rule
-rewriting-roomless k n u p {out} rule h e f =
-    rw (e, f, rewriting-without k n u p out rule h, rewriting-without k n u p [] [] (omega arith), roomless_rewrite k n u p out)
-
--- an empty part holds nothing
-pub nothing_before : {X : Type 0} (after out : List X) → length after ≡ 0 → after ++ out ≡ out
-nothing_before [] out h = refl
-nothing_before (x ∷ after) out h = absurd (omega arith)
+pub rewriting-roomless : (k n : ℕ) (u : List ℕ) (p : ℕ) {out : List ℕ} (rule : List ℕ) {z : ℤ} → length rule < 3
+    → z ≡ (rewriting k n u p [] []).0 → (z, (out, rule)) ≡ rewriting k n u p out rule
+rewriting-roomless k n u p {out} rule h e =
+    rw (e, rewriting-without k n u p out rule h, rewriting-without k n u p [] [] (omega arith), roomless_rewrite k n u p out)

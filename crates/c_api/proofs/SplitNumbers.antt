@@ -8,8 +8,7 @@ use mathlib.Core.List.{List, [], ◌∷◌}
 use Prim.Native.Nat.{ℕ, ◌+◌, ◌≤◌, ◌<◌}
 use native.Mathlib.Omega.{arith}
 use lib.IntN.{ℤ, pos}
-use lib.ListN.{length}
-use lib.Seq.{sets}
+use lib.ListN.{length, drop}
 use borrow.Author.Tests.{ne_eqb}
 use Rattle.coxeter.specs.Kinds.{kind_of}
 use Rattle.coxeter.specs.Windows.{window}
@@ -18,7 +17,6 @@ use Rattle.coxeter.specs.Calls.{written}
 use Rattle.coxeter.proofs.Levels.{window_accepted}
 use Rattle.coxeter.proofs.PairWeights.{window_length_le_4096}
 use Rattle.coxeter.proofs.Fronts.{length-window_le}
-use Rattle.shortest_words.specs.answers.Split.{Split}
 use Rattle.shortest_words.specs.answers.Split.{Words, Refused}
 use Rattle.shortest_words.specs.Allowed.{allows, set_refusal}
 use Rattle.shortest_words.specs.Split.{first_word, second_word}
@@ -46,16 +44,17 @@ splitting_listed_refusable set u first second lengths = record { refused_same = 
 
 -- ---- the lengths
 
-module _ (k n set : ℕ) (u first second lengths : List ℕ) {a : Split} {v w : List ℕ} (y : SplitYields (splitting k n set u first second) a v w) {z : ℤ} where
-  pub splitting_listed_stored : {l m : ℕ} → a ≡ Words l m → 2 ≤ length lengths → z ≡ pos (l + m)
-      → (z, ((v, w), sets lengths 0 (l ∷ m ∷ []))) ≡ splitting_listed k n set u first second lengths
+module _ (k n set : ℕ) (u first second lengths : List ℕ) {v w : List ℕ} where
+  pub splitting_listed_stored : {l m : ℕ} → SplitYields (splitting k n set u first second) (Words l m) v w → 2 ≤ length lengths
+      → (pos (l + m), ((v, w), l ∷ m ∷ drop 2 lengths)) ≡ splitting_listed k n set u first second lengths
   unfolding splitting_listed split_numbers
-  splitting_listed_stored {l} {m} q h e =
-      rw (← y.0, ← y.1, ← y.2, q, ← e) (beside_stored z (l ∷ m ∷ []) lengths (v, w) (first, second) h)
+  splitting_listed_stored {l} {m} y h =
+      rw (← y.0, ← y.1, ← y.2) (beside_stored (pos (l + m)) (l ∷ m ∷ []) lengths (v, w) (first, second) h)
 
-  pub splitting_listed-refused : {r : ℕ} → a ≡ Refused r → z ≡ refused r → (z, ((v, w), lengths)) ≡ splitting_listed k n set u first second lengths
+  pub splitting_listed-refused : {r : ℕ} {z : ℤ} → SplitYields (splitting k n set u first second) (Refused r) v w → z ≡ refused r
+      → (z, ((v, w), lengths)) ≡ splitting_listed k n set u first second lengths
   unfolding splitting_listed split_numbers
-  splitting_listed-refused q e = rw (← y.0, ← y.1, ← y.2, q, ← e) (beside_alone z (v, w) (first, second) lengths)
+  splitting_listed-refused {z = z} y e = rw (← y.0, ← y.1, ← y.2, ← e) (beside_alone z (v, w) (first, second) lengths)
 
 -- a refused split writes nothing
 pub splitting_still : (k n set : ℕ) (u first second : List ℕ) → let p = splitting k n set u first second in

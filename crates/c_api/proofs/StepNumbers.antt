@@ -3,17 +3,14 @@
 --
 -- Sections: numbers of steps; kinds and ranks; the final length; a final length without room.
 -- Assumes nothing.
-use mathlib.Core.Path.{◌≡◌, refl, sym, ap, ◌∙◌}
+use mathlib.Core.Path.{◌≡◌, refl, sym}
 use mathlib.Core.Bool.{true, false}
+use mathlib.Core.Logic.{◌⊎◌, inl, inr}
 use mathlib.Core.List.{List, [], ◌∷◌}
 use Prim.Native.Nat.{ℕ, ◌≤◌, ◌<◌}
 use native.Mathlib.Omega.{arith}
 use lib.IntN.{ℤ, pos}
-use lib.ListN.{length}
-use lib.Seq.{sets}
-use mir.Syntax.{w64}
-use mir.Val.{to_z}
-use mir.ValLaws.{to_z_pos}
+use lib.ListN.{length, drop}
 use borrow.Author.Tests.{ne_eqb, lt-ltb, le-ltb}
 use Rattle.coxeter.specs.answers.Answer.{Answer}
 use Rattle.coxeter.specs.answers.Answer as answer
@@ -34,10 +31,6 @@ use Rattle.c_api.proofs.Bytes.{Refusable}
 use Rattle.c_api.proofs.Lists.{trace-numbers, IsRefusal, roomless, roomless_answer, beside_stored, beside_alone, beside_roomless, room_last}
 
 -- ---- numbers of steps
-
--- a number of steps as an `i64`
-pub steps_back : (s : ℕ) → s ≤ 8386560 → to_z w64 s ≡ pos s
-steps_back s h = to_z_pos w64 s (omega arith)
 
 pub number_of_steps_few : (k n : ℕ) (u : List ℕ) (l : ℕ) → number_of_steps k n u ≡ answer.Length l → l ≤ 8386560
 number_of_steps_few k n u l e =
@@ -63,19 +56,18 @@ rewriting_to_end_listed_refusable u families places lengths out written = record
 
 -- ---- the final length
 
-module _ (k n : ℕ) (u families places lengths out written : List ℕ) {a : ToEnd} {f p g o : List ℕ}
-    (y : TraceYields (rewriting_to_end k n u families places lengths out) a f p g o) {z : ℤ} where
-  pub rewriting_to_end_listed_stored : {s l : ℕ} → a ≡ to_end.Ended s l → 1 ≤ length written → z ≡ pos s
-      → (z, ((f, p, g, o), sets written 0 (l ∷ []))) ≡ rewriting_to_end_listed k n u families places lengths out written
+module _ (k n : ℕ) (u families places lengths out written : List ℕ) {f p g o : List ℕ} where
+  pub rewriting_to_end_listed_stored : {s l : ℕ} → TraceYields (rewriting_to_end k n u families places lengths out) (to_end.Ended s l) f p g o
+      → 1 ≤ length written → (pos s, ((f, p, g, o), l ∷ drop 1 written)) ≡ rewriting_to_end_listed k n u families places lengths out written
   unfolding rewriting_to_end_listed trace_numbers
-  rewriting_to_end_listed_stored {s} {l} q h e =
-      rw (← y.0, ← y.1, ← y.2, ← y.3, ← y.4, q, ← e) (beside_stored z (l ∷ []) written (f, p, g, o) (families, places, lengths, out) h)
+  rewriting_to_end_listed_stored {s} {l} y h =
+      rw (← y.0, ← y.1, ← y.2, ← y.3, ← y.4) (beside_stored (pos s) (l ∷ []) written (f, p, g, o) (families, places, lengths, out) h)
 
-  pub rewriting_to_end_listed-refused : {r : ℕ} → a ≡ to_end.Refused r → z ≡ refused r
-      → (z, ((f, p, g, o), written)) ≡ rewriting_to_end_listed k n u families places lengths out written
+  pub rewriting_to_end_listed-refused : {r : ℕ} {z : ℤ} → TraceYields (rewriting_to_end k n u families places lengths out) (to_end.Refused r) f p g o
+      → z ≡ refused r → (z, ((f, p, g, o), written)) ≡ rewriting_to_end_listed k n u families places lengths out written
   unfolding rewriting_to_end_listed trace_numbers
-  rewriting_to_end_listed-refused q e =
-      rw (← y.0, ← y.1, ← y.2, ← y.3, ← y.4, q, ← e) (beside_alone z (f, p, g, o) (families, places, lengths, out) written)
+  rewriting_to_end_listed-refused {z = z} y e =
+      rw (← y.0, ← y.1, ← y.2, ← y.3, ← y.4, ← e) (beside_alone z (f, p, g, o) (families, places, lengths, out) written)
 
 -- a refused rewriting writes nothing
 pub rewriting_to_end_still : (k n : ℕ) (u families places lengths out : List ℕ) → let t = rewriting_to_end k n u families places lengths out in
@@ -87,16 +79,15 @@ rewriting_to_end_still k n u families places lengths out h =
 
 -- ---- a final length without room
 
--- checks 5 to 8, 15, then 14
-without : ℕ → ℕ → List ℕ → List ℕ → List ℕ → List ℕ → ℤ
-without k n u families places lengths =
-    let few = too_few_places (length (trace (kind_of k) n u).lines) families places lengths in
-    refused (((rank_refusal k n then word_refusal n u) then check 15 few) then 14)
+-- checks 5 to 8, then 15
+abbrev pub lists_refusal : ℕ → ℕ → List ℕ → List ℕ → List ℕ → List ℕ → ℕ
+lists_refusal k n u families places lengths =
+    (rank_refusal k n then word_refusal n u) then check 15 (too_few_places (length (trace (kind_of k) n u).lines) families places lengths)
 
 -- the number does not depend on the output
 roomless-trace : (k n : ℕ) (u families places lengths out : List ℕ)
-    → roomless (trace_numbers (rewriting_to_end k n u families places lengths out).answer) ≡ without k n u families places lengths
-unfolding rewriting_to_end traced_by to_end_of trace_numbers roomless without
+    → roomless (trace_numbers (rewriting_to_end k n u families places lengths out).answer) ≡ refused (lists_refusal k n u families places lengths then 14)
+unfolding rewriting_to_end traced_by to_end_of trace_numbers roomless
 roomless-trace k n u families places lengths out =
     let q = rank_refusal k n then word_refusal n u in
     let t = trace (kind_of k) n u in
@@ -107,59 +98,47 @@ roomless-trace k n u families places lengths out =
     (room_last short))
 
 module _ (k n : ℕ) (u families places lengths : List ℕ) where
-  to_end_without : (out written : List ℕ) → length written < 1
-      → rewriting_to_end_listed k n u families places lengths out written
-      ≡ (without k n u families places lengths, ((families, places, lengths, out), written))
-  unfolding rewriting_to_end_listed
-  to_end_without out written h =
-      let t = rewriting_to_end k n u families places lengths out in
-      beside_roomless (trace-numbers t.answer) (t.families, t.places, t.lengths, t.bytes) (families, places, lengths, out) written (omega arith) h
-      (rewriting_to_end_still k n u families places lengths out)
-      ∙ ap (λ (z : ℤ). (z, ((families, places, lengths, out), written))) (roomless-trace k n u families places lengths out)
-
-  pub rewriting_to_end_listed-roomless : {out written : List ℕ} {z : ℤ} → length written < 1
-      → z ≡ (rewriting_to_end_listed k n u families places lengths [] []).0
+  pub rewriting_to_end_listed-roomless : {out written : List ℕ} {r : ℕ} {z : ℤ} → length written < 1
+      → r ≡ lists_refusal k n u families places lengths → z ≡ refused (r then 14)
       → (z, ((families, places, lengths, out), written)) ≡ rewriting_to_end_listed k n u families places lengths out written
-  rewriting_to_end_listed-roomless {out} {written} h e = rw (e, to_end_without out written h, to_end_without [] [] (omega arith))
+  unfolding rewriting_to_end_listed
+  rewriting_to_end_listed-roomless {out} {written} h e f =
+      let t = rewriting_to_end k n u families places lengths out in
+      rw (f, e, ← roomless-trace k n u families places lengths out)
+      (sym (beside_roomless (trace-numbers t.answer) (t.families, t.places, t.lengths, t.bytes) (families, places, lengths, out) written (omega arith) h
+      (rewriting_to_end_still k n u families places lengths out)))
 
-  module _ {a : Answer} (e : a ≡ number_of_steps k n u) where
-    -- refused before check 15
-    pub to_end_refused : {r : ℕ} → a ≡ answer.Refused r → refused r ≡ (rewriting_to_end_listed k n u families places lengths [] []).0
-    unfolding number_of_steps without
-    to_end_refused {r} p =
+  -- refused before check 15
+  pub lists_refused : {r : ℕ} → answer.Refused r ≡ number_of_steps k n u → r ≡ lists_refusal k n u families places lengths
+  unfolding number_of_steps
+  lists_refused {r} e =
+      let q = rank_refusal k n then word_refusal n u in
+      let j = ((answer_of_exactly q (length (trace (kind_of k) n u).lines)).0 r).0 (sym e) in
+      rw (j.0, ne_eqb r 0 j.1)
+
+  module _ {s : ℕ} (e : answer.Length s ≡ number_of_steps k n u) where
+    lists_by_steps : check 15 (too_few_places s families places lengths) ≡ lists_refusal k n u families places lengths
+    unfolding number_of_steps
+    lists_by_steps =
         let q = rank_refusal k n then word_refusal n u in
-        let j = ((answer_of_exactly q (length (trace (kind_of k) n u).lines)).0 r).0 (sym e ∙ p) in
-        let f = ne_eqb r 0 j.1 in
-        rw (to_end_without [] [] (omega arith), j.0, f) (rw f refl)
+        let j = ((answer_of_exactly q (length (trace (kind_of k) n u).lines)).1 s).0 (sym e) in
+        rw (j.0, j.1)
 
-    module _ (s : ℕ) (p : a ≡ answer.Length s) where
-      to_end_steps : refused (check 15 (too_few_places s families places lengths) then 14) ≡ (rewriting_to_end_listed k n u families places lengths [] []).0
-      unfolding number_of_steps without
-      to_end_steps =
-          let q = rank_refusal k n then word_refusal n u in
-          let j = ((answer_of_exactly q (length (trace (kind_of k) n u).lines)).1 s).0 (sym e ∙ p) in
-          rw (to_end_without [] [] (omega arith), j.0, j.1)
+    pub few_places : (length families < s)
+        ⊎ (((s ≤ length families) × (length places < s)) ⊎ ((s ≤ length families) × (s ≤ length places) × (length lengths < s)))
+        → 15 ≡ lists_refusal k n u families places lengths
+    unfolding too_few_places too_short
+    few_places h =
+        let few : too_few_places s families places lengths ≡ true = elim h [
+          | inl f ↦ rw (lt-ltb (length families) s f)
+          | inr (inl f) ↦ rw (le-ltb (length families) s f.0, lt-ltb (length places) s f.1)
+          | inr (inr f) ↦ rw (le-ltb (length families) s f.0, le-ltb (length places) s f.1, lt-ltb (length lengths) s f.2)
+        ] in
+        rw few at lists_by_steps
 
-      to_end_few : too_few_places s families places lengths ≡ true → refused 15 ≡ (rewriting_to_end_listed k n u families places lengths [] []).0
-      to_end_few h = rw h at to_end_steps
-
-      pub few_families : length families < s → refused 15 ≡ (rewriting_to_end_listed k n u families places lengths [] []).0
-      unfolding too_few_places too_short
-      few_families h = to_end_few (rw (lt-ltb (length families) s h))
-
-      pub few_places : s ≤ length families → length places < s → refused 15 ≡ (rewriting_to_end_listed k n u families places lengths [] []).0
-      unfolding too_few_places too_short
-      few_places f h = to_end_few (rw (le-ltb (length families) s f, lt-ltb (length places) s h))
-
-      pub few_lengths : s ≤ length families → s ≤ length places → length lengths < s
-          → refused 15 ≡ (rewriting_to_end_listed k n u families places lengths [] []).0
-      unfolding too_few_places too_short
-      few_lengths f g h = to_end_few (rw (le-ltb (length families) s f, le-ltb (length places) s g, lt-ltb (length lengths) s h))
-
-      pub enough_places : s ≤ length families → s ≤ length places → s ≤ length lengths
-          → refused 14 ≡ (rewriting_to_end_listed k n u families places lengths [] []).0
-      unfolding too_few_places too_short
-      enough_places f g h =
-          let e : too_few_places s families places lengths ≡ false =
-          rw (le-ltb (length families) s f, le-ltb (length places) s g, le-ltb (length lengths) s h) in
-          rw e at to_end_steps
+    pub enough_places : s ≤ length families → s ≤ length places → s ≤ length lengths → 0 ≡ lists_refusal k n u families places lengths
+    unfolding too_few_places too_short
+    enough_places f g h =
+        let few : too_few_places s families places lengths ≡ false =
+        rw (le-ltb (length families) s f, le-ltb (length places) s g, le-ltb (length lengths) s h) in
+        rw few at lists_by_steps

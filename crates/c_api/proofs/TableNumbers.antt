@@ -7,12 +7,10 @@ use mathlib.Core.List.{List, [], ◌∷◌}
 use Prim.Native.Nat.{ℕ, ◌≤◌, ◌<◌}
 use native.Mathlib.Omega.{arith}
 use lib.IntN.{ℤ, pos}
-use lib.ListN.{length}
-use lib.Seq.{sets}
+use lib.ListN.{length, drop}
 use Rattle.coxeter.specs.Kinds.{kind_of}
 use Rattle.coxeter.specs.NormalForm.{normal_form}
 use Rattle.coxeter.specs.Checks.{check, ◌then◌, too_short}
-use Rattle.distribution.specs.answers.Table.{Table}
 use Rattle.distribution.specs.answers.Table.{Written, Refused}
 use Rattle.distribution.specs.Distribution.{distribution}
 use Rattle.distribution.specs.Longest.{longest}
@@ -33,17 +31,17 @@ delay_table_listed_refusable counts entries letters lengths = record {
 
 -- ---- the lengths
 
-module _ (k n : ℕ) (counts : List ℕ) (entries : List ℤ) (letters lengths : List ℕ) {a : Table} {d : List ℕ} {w : List ℤ} {u : List ℕ}
-    (y : TableYields (delay_table k n counts entries letters) a d w u) {z : ℤ} where
-  pub delay_table_listed_stored : {i j l : ℕ} → a ≡ Written i j l → 3 ≤ length lengths → z ≡ pos l
-      → (z, ((d, w, u), sets lengths 0 (i ∷ j ∷ l ∷ []))) ≡ delay_table_listed k n counts entries letters lengths
+module _ (k n : ℕ) (counts : List ℕ) (entries : List ℤ) (letters lengths : List ℕ) {d : List ℕ} {w : List ℤ} {u : List ℕ} where
+  pub delay_table_listed_stored : {i j l : ℕ} → TableYields (delay_table k n counts entries letters) (Written i j l) d w u → 3 ≤ length lengths
+      → (pos l, ((d, w, u), i ∷ j ∷ l ∷ drop 3 lengths)) ≡ delay_table_listed k n counts entries letters lengths
   unfolding delay_table_listed table_numbers
-  delay_table_listed_stored {i} {j} {l} q h e =
-      rw (← y.0, ← y.1, ← y.2, ← y.3, q, ← e) (beside_stored z (i ∷ j ∷ l ∷ []) lengths (d, w, u) (counts, entries, letters) h)
+  delay_table_listed_stored {i} {j} {l} y h =
+      rw (← y.0, ← y.1, ← y.2, ← y.3) (beside_stored (pos l) (i ∷ j ∷ l ∷ []) lengths (d, w, u) (counts, entries, letters) h)
 
-  pub delay_table_listed-refused : {r : ℕ} → a ≡ Refused r → z ≡ refused r → (z, ((d, w, u), lengths)) ≡ delay_table_listed k n counts entries letters lengths
+  pub delay_table_listed-refused : {r : ℕ} {z : ℤ} → TableYields (delay_table k n counts entries letters) (Refused r) d w u → z ≡ refused r
+      → (z, ((d, w, u), lengths)) ≡ delay_table_listed k n counts entries letters lengths
   unfolding delay_table_listed table_numbers
-  delay_table_listed-refused q e = rw (← y.0, ← y.1, ← y.2, ← y.3, q, ← e) (beside_alone z (d, w, u) (counts, entries, letters) lengths)
+  delay_table_listed-refused {z = z} y e = rw (← y.0, ← y.1, ← y.2, ← y.3, ← e) (beside_alone z (d, w, u) (counts, entries, letters) lengths)
 
 -- a refused table writes nothing
 pub delay_table_still : (k n : ℕ) (counts : List ℕ) (entries : List ℤ) (letters : List ℕ) → let t = delay_table k n counts entries letters in

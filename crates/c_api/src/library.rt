@@ -3,7 +3,7 @@ ghost use Rattle.std.specs.Prelude.{◌≡◌};
 ghost use Rattle.messages.specs.Messages.{refusal_message};
 ghost use Rattle.c_api.specs.Calls.{numbered, version};
 
-use crate::numbers::{byte, number};
+use crate::numbers::{byte, number_of};
 
 // The version: 1,000,000 for each major version, 1,000 for each minor one and 1 for each patch. The file VERSION
 // has it as text.
@@ -18,5 +18,5 @@ pub fn winnathey_version() -> i64
 pub fn winnathey_refusal_message(refusal: u32, out: &mut [u8]) -> i64
     ensures { (result, out.new) ≡ numbered (refusal_message refusal out.old) }
 {
-    number(messages::refusal_message(byte(refusal), out))
+    number_of(messages::refusal_message(byte(refusal), out))
 }

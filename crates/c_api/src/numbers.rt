@@ -1,21 +1,17 @@
 // The numbers that the calls for C return.
-ghost use Rattle.std.specs.Prelude.{◌≡◌, ℕ, ◌+◌, ◌≤◌, ltb, pos};
+ghost use Rattle.std.specs.Prelude.{◌≡◌, ◌+◌, ◌^◌, ◌<◌, ltb, IfOk};
 ghost use Rattle.coxeter.specs.Kinds.{pick};
-ghost use Rattle.coxeter.specs.Checks.{◌then◌};
-ghost use Rattle.coxeter.specs.answers.Answer.{Length};
-ghost use Rattle.coxeter.specs.answers.Counted.{Crossings};
+ghost use Rattle.coxeter.specs.answers.Answer.{as_answer};
+ghost use Rattle.coxeter.specs.answers.Counted.{as_counted};
 ghost use Rattle.c_api.specs.Calls.{refused, number_of, crossing_numbers, listed};
 
-use window::{Answer, Counted};
+use coxeter::{LengthCounts, Refusal};
 
 // IC5: a kind or a rank as the calls below take it. Values above 255 become 0, which every call refuses.
 pub(crate) fn byte(x: u32) -> u8
     ensures { result ≡ pick (ltb 255 x) 0 x }
 {
-    if 255 < x {
-        return 0;
-    }
-    x as u8
+    u8::try_from(x).unwrap_or(0)
 }
 
 // IC2: the number of a refusal.
@@ -25,54 +21,32 @@ pub(crate) fn refusal_number(k: u8) -> i64
     -(k as i64)
 }
 
-// The number where the lengths of a call have no room, by the refusal of its checks before 14.
-pub(crate) fn unlisted(refusal: u8) -> i64
-    ensures { result ≡ refused (refusal then 14) }
-{
-    if refusal != 0 {
-        return refusal_number(refusal);
-    }
-    -14
-}
-
-// A length, at most 65,535.
-pub(crate) fn size(l: usize) -> i64
-    requires { l ≤ 65535 }
-    ensures { result ≡ pos l }
-{
-    l as i64
-}
-
-// The number of an answer whose length, if it has one, is at most 65,535.
-pub(crate) fn number(answer: Answer) -> i64
-    requires { (l : ℕ) → answer ≡ Length l → l ≤ 65535 }
-    ensures { result ≡ number_of answer }
+// IC2: the number of a length or of a number of steps, or of the refusal. The bound is shown at each call: a type of
+// lengths that an `i64` holds would be made only to be taken apart here, and so be no plainer.
+pub(crate) fn number_of(answer: Result<usize, Refusal>) -> i64
+    requires { IfOk answer (λ l. l < 2 ^ 63) }
+    ensures { result ≡ number_of (as_answer answer) }
 {
     match answer {
-        Answer::Length(l) => size(l),
-        Answer::Refused(refusal) => refusal_number(refusal),
+        Ok(l) => l as i64,
+        Err(refusal) => refusal_number(refusal.number()),
     }
 }
 
-// Writes the three counts of a length to the front of `counts` and returns their total, which is at most 65,535.
-pub(crate) fn write_crossings(counted: Counted, counts: &mut [u64]) -> i64
-    requires { (a b c : ℕ) → counted ≡ Crossings a b c → a + b + c ≤ 65535 }
-    ensures { (result, counts.new) ≡ listed (crossing_numbers counted) counts.old }
+// Writes the three counts of a length to the front of `list` and returns their total. Refusal 14.
+pub(crate) fn write_crossings(
+    counts: Result<LengthCounts, Refusal>,
+    list: &mut [u64],
+) -> Result<usize, Refusal>
+    requires { IfOk counts (λ c. c.inversions + c.negative_sum_pairs + c.negatives < 2 ^ 63) }
+    ensures fits { IfOk result (λ l. l < 2 ^ 63) }
+    ensures numbers { (number_of (as_answer result), list.new) ≡ listed (crossing_numbers (as_counted counts)) list.old }
 {
-    match counted {
-        Counted::Crossings {
-            inversions,
-            negative_sum_pairs,
-            negatives,
-        } => {
-            if counts.len() < 3 {
-                return -14;
-            }
-            counts[0] = inversions as u64;
-            counts[1] = negative_sum_pairs as u64;
-            counts[2] = negatives as u64;
-            size(inversions + negative_sum_pairs + negatives)
-        }
-        Counted::Refused(refusal) => refusal_number(refusal),
-    }
+    let counts = counts?;
+    *list.first_chunk_mut().ok_or(Refusal::OutputTooShort)? = [
+        counts.inversions as u64,
+        counts.negative_sum_pairs as u64,
+        counts.negatives as u64,
+    ];
+    Ok(counts.inversions + counts.negative_sum_pairs + counts.negatives)
 }

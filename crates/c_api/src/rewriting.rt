@@ -2,20 +2,16 @@
 ghost use Rattle.std.specs.Prelude.{◌≡◌, []};
 ghost use Rattle.c_api.specs.Calls.{rewriting};
 
-use crate::numbers::{byte, refusal_number, size};
+use crate::numbers::{byte, refusal_number};
+use coxeter::Refusal;
 use rewriter::{Rewrite, rewrite_at};
 
-// The number where the rule has no room: nothing can be written, so the rewrite gets an empty part of `out`.
-fn refused_rule(kind: u8, rank: u8, word: &[u8], place: usize, out: &mut [u8]) -> i64
-    ensures { (result ≡ (rewriting kind rank word.now place [] []).0) × (out.new ≡ out.old) }
+// The number where the rule has no room: nothing can be written, so the rewrite gets an empty output.
+fn refused_rule(kind: u8, rank: u8, word: &[u8], place: usize) -> i64
+    ensures { result ≡ (rewriting kind rank word.now place [] []).0 }
 {
-    match rewrite_at(kind, rank, word, place, &mut out[..0]) {
-        Rewrite::Used {
-            family: _,
-            i: _,
-            j: _,
-            length: _,
-        } => -14,
+    match rewrite_at(kind, rank, word, place, &mut []) {
+        Rewrite::Used { .. } => refusal_number(Refusal::OutputTooShort.number()),
         Rewrite::NoneFits => -100,
         Rewrite::Refused(refusal) => refusal_number(refusal),
     }
@@ -26,9 +22,9 @@ fn refused_rule(kind: u8, rank: u8, word: &[u8], place: usize, out: &mut [u8]) -
 fn rewrite(kind: u8, rank: u8, word: &[u8], place: usize, out: &mut [u8], rule: &mut [u8]) -> i64
     ensures { (result, (out.new, rule.new)) ≡ rewriting kind rank word.now place out.old rule.old }
 {
-    if rule.len() < 3 {
-        return refused_rule(kind, rank, word, place, out);
-    }
+    let Some(front) = rule.first_chunk_mut() else {
+        return refused_rule(kind, rank, word, place);
+    };
     match rewrite_at(kind, rank, word, place, out) {
         Rewrite::Used {
             family,
@@ -36,10 +32,8 @@ fn rewrite(kind: u8, rank: u8, word: &[u8], place: usize, out: &mut [u8], rule: 
             j,
             length,
         } => {
-            rule[0] = family;
-            rule[1] = i;
-            rule[2] = j;
-            size(length)
+            *front = [family, i, j];
+            length as i64
         }
         Rewrite::NoneFits => -100,
         Rewrite::Refused(refusal) => refusal_number(refusal),

@@ -4,8 +4,8 @@ ghost use Rattle.shortest_words.specs.BetweenCalls.{between_windows};
 ghost use Rattle.c_api.specs.Calls.{numbered};
 ghost use Rattle.c_api.specs.Shortest.{FallbackNumbered};
 
-use crate::numbers::{byte, number, refusal_number, size};
-use descents::{Fallback, fallback_places};
+use crate::numbers::{byte, number_of, refusal_number};
+use descents::fallback_places;
 
 // I18, IC4: whether a simpler word's window can be reached by removing letters from the normal form of the present
 // word. The places of letters to keep, which count from 0 and rise, go to the front of `places`. Returns how many
@@ -20,9 +20,9 @@ pub fn winnathey_fallback(
     ensures { FallbackNumbered kind rank present.now simpler.now places.old result places.new }
 {
     match fallback_places(byte(kind), byte(rank), present, simpler, places) {
-        Fallback::Kept(l) => size(l),
-        Fallback::No => -101,
-        Fallback::Refused(refusal) => refusal_number(refusal),
+        Ok(Some(kept)) => kept as i64,
+        Ok(None) => -101,
+        Err(refusal) => refusal_number(refusal.number()),
     }
 }
 
@@ -39,5 +39,5 @@ pub fn winnathey_between(
 ) -> i64
     ensures { (result, out.new) ≡ numbered (between_windows kind rank allowed from.now to.now out.old) }
 {
-    number(descents::between_windows(byte(kind), byte(rank), allowed, from, to, out))
+    number_of(descents::between_windows(byte(kind), byte(rank), allowed, from, to, out))
 }

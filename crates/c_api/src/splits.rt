@@ -1,12 +1,14 @@
 // Words split by allowed steps.
-ghost use Rattle.std.specs.Prelude.{◌≡◌};
-ghost use Rattle.c_api.specs.Calls.{splitting_listed};
+ghost use Rattle.std.specs.Prelude.{◌≡◌, ◌^◌, ◌<◌, IfOk};
+ghost use Rattle.coxeter.specs.answers.Answer.{as_answer};
+ghost use Rattle.c_api.specs.Calls.{number_of, splitting_listed};
 
-use crate::numbers::{byte, refusal_number, size, unlisted};
-use descents::{Split, split_refusal, split_word};
+use crate::numbers::{byte, number_of};
+use coxeter::Refusal;
+use descents::{check_split, split_word};
 
 // CO9, IC3: a split with its lengths, of a kind and a rank that are bytes. Every output is checked before any is
-// written.
+// written. Returns the sum of the two lengths.
 fn split(
     kind: u8,
     rank: u8,
@@ -15,24 +17,18 @@ fn split(
     first: &mut [u8],
     second: &mut [u8],
     lengths: &mut [u64],
-) -> i64
-    ensures { (result, ((first.new, second.new), lengths.new))
+) -> Result<usize, Refusal>
+    ensures fits { IfOk result (λ l. l < 2 ^ 63) }
+    ensures numbers { (number_of (as_answer result), ((first.new, second.new), lengths.new))
         ≡ splitting_listed kind rank allowed word.now first.old second.old lengths.old }
 {
-    if lengths.len() < 2 {
-        return unlisted(split_refusal(kind, rank, allowed, word));
-    }
-    match split_word(kind, rank, allowed, word, first, second) {
-        Split::Words {
-            first: a,
-            second: b,
-        } => {
-            lengths[0] = a as u64;
-            lengths[1] = b as u64;
-            size(a + b)
-        }
-        Split::Refused(refusal) => refusal_number(refusal),
-    }
+    let Some(front) = lengths.first_chunk_mut() else {
+        check_split(kind, rank, allowed, word)?;
+        return Err(Refusal::OutputTooShort);
+    };
+    let split = split_word(kind, rank, allowed, word, first, second)?;
+    *front = [split.first as u64, split.second as u64];
+    Ok(split.first + split.second)
 }
 
 // I22: a word split by the set of allowed steps, bit 0 for step 1: the first word is over allowed steps, the
@@ -51,7 +47,7 @@ pub fn winnathey_split(
     ensures { (result, ((first.new, second.new), lengths.new))
         ≡ splitting_listed kind rank allowed word.now first.old second.old lengths.old }
 {
-    split(
+    number_of(split(
         byte(kind),
         byte(rank),
         allowed,
@@ -59,5 +55,5 @@ pub fn winnathey_split(
         first,
         second,
         lengths,
-    )
+    ))
 }

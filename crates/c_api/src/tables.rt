@@ -1,12 +1,14 @@
 // The delay table.
-ghost use Rattle.std.specs.Prelude.{◌≡◌};
-ghost use Rattle.c_api.specs.Calls.{delay_table_listed};
+ghost use Rattle.std.specs.Prelude.{◌≡◌, ◌^◌, ◌<◌, IfOk};
+ghost use Rattle.coxeter.specs.answers.Answer.{as_answer};
+ghost use Rattle.c_api.specs.Calls.{number_of, delay_table_listed};
 
-use crate::numbers::{byte, refusal_number, size, unlisted};
-use delay::{Table, delay_table, table_refusal};
+use crate::numbers::{byte, number_of};
+use coxeter::Refusal;
+use delay::{delay_table, tabled_group};
 
 // CO9, IC3: a table with its lengths, of a kind and a rank that are bytes. Every output is checked before any is
-// written.
+// written. Returns the greatest length.
 fn table(
     kind: u8,
     rank: u8,
@@ -14,26 +16,22 @@ fn table(
     window: &mut [i8],
     form: &mut [u8],
     lengths: &mut [u64],
-) -> i64
-    ensures { (result, ((counts.new, window.new, form.new), lengths.new))
+) -> Result<usize, Refusal>
+    ensures fits { IfOk result (λ l. l < 2 ^ 63) }
+    ensures numbers { (number_of (as_answer result), ((counts.new, window.new, form.new), lengths.new))
         ≡ delay_table_listed kind rank counts.old window.old form.old lengths.old }
 {
-    if lengths.len() < 3 {
-        return unlisted(table_refusal(kind, rank));
-    }
-    match delay_table(kind, rank, counts, window, form) {
-        Table::Written {
-            counts: c,
-            entries: e,
-            letters: l,
-        } => {
-            lengths[0] = c as u64;
-            lengths[1] = e as u64;
-            lengths[2] = l as u64;
-            size(l)
-        }
-        Table::Refused(refusal) => refusal_number(refusal),
-    }
+    let Some(front) = lengths.first_chunk_mut() else {
+        tabled_group(kind, rank)?;
+        return Err(Refusal::OutputTooShort);
+    };
+    let table = delay_table(kind, rank, counts, window, form)?;
+    *front = [
+        table.counts as u64,
+        table.entries as u64,
+        table.letters as u64,
+    ];
+    Ok(table.letters)
 }
 
 // I24: how many windows of a kind and a rank have each length, from 0 to the greatest, written to the front of
@@ -51,5 +49,5 @@ pub fn winnathey_delay_table(
     ensures { (result, ((counts.new, window.new, form.new), lengths.new))
         ≡ delay_table_listed kind rank counts.old window.old form.old lengths.old }
 {
-    table(byte(kind), byte(rank), counts, window, form, lengths)
+    number_of(table(byte(kind), byte(rank), counts, window, form, lengths))
 }

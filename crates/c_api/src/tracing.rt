@@ -1,70 +1,46 @@
 // The rewriting to its end.
-ghost use Rattle.std.specs.Prelude.{◌≡◌, [], ℕ, ◌≤◌, pos};
-ghost use Rattle.coxeter.specs.answers.Answer.{Length};
-ghost use Rattle.traces.specs.Traces.{number_of_steps};
+ghost use Rattle.std.specs.Prelude.{◌≡◌, ◌^◌, ◌<◌, length, IfOk};
+ghost use Rattle.coxeter.specs.Kinds.{kind_of};
+ghost use Rattle.coxeter.specs.Checks.{check, ◌then◌, rank_refusal, word_refusal};
+ghost use Rattle.coxeter.specs.Refusals.{refusal_of};
+ghost use Rattle.coxeter.specs.answers.Answer.{as_answer};
+ghost use Rattle.traces.specs.Traces.{number_of_steps, too_few_places, trace};
 ghost use Rattle.c_api.specs.Calls.{number_of, rewriting_to_end_listed};
 
-use crate::numbers::{byte, refusal_number};
-use rewriter::{Answer, ToEnd, rewrite_steps, rewrite_to_end};
-
-// A number of steps, which is at most the number of pairs of letters of the longest word.
-fn steps_number(steps: usize) -> i64
-    requires { steps ≤ 8386560 }
-    ensures { result ≡ pos steps }
-{
-    steps as i64
-}
-
-// The number of an answer that counts steps.
-fn counted(answer: Answer) -> i64
-    requires { (l : ℕ) → answer ≡ Length l → l ≤ 8386560 }
-    ensures { result ≡ number_of answer }
-{
-    match answer {
-        Answer::Length(l) => steps_number(l),
-        Answer::Refused(refusal) => refusal_number(refusal),
-    }
-}
+use crate::numbers::{byte, number_of};
+use coxeter::Refusal;
+use rewriter::{rewrite_steps, rewrite_to_end};
 
 // I21: how many steps `winnathey_rewrite_to_end` takes: so many places each of its lists must have. For a word of L
 // letters that is at most L (L - 1) / 2 (T25). Refusals 5 to 8.
 pub fn winnathey_rewrite_steps(kind: u32, rank: u32, word: &[u8]) -> i64
     ensures { result ≡ number_of (number_of_steps kind rank word.now) }
 {
-    counted(rewrite_steps(byte(kind), byte(rank), word))
+    number_of(rewrite_steps(byte(kind), byte(rank), word))
 }
 
-// The number where the final length has no room: nothing can be written, and 15 comes before 14.
-fn refused_written(
+// Checks 5 to 8, then 15 of the three lists of a rewriting to its end.
+fn check_lists(
     kind: u8,
     rank: u8,
     word: &[u8],
     families: &[u8],
     places: &[u16],
     lengths: &[u16],
-) -> i64
-    ensures { result ≡ (rewriting_to_end_listed kind rank word.now families.now places.now lengths.now
-        [] []).0 }
+) -> Result<(), Refusal>
+    ensures { refusal_of result ≡ ((rank_refusal kind rank then word_refusal rank word.now)
+        then check 15 (too_few_places (length (trace (kind_of kind) rank word.now).lines)
+        families.now places.now lengths.now)) }
 {
-    match rewrite_steps(kind, rank, word) {
-        Answer::Length(steps) => {
-            if families.len() < steps {
-                return -15;
-            }
-            if places.len() < steps {
-                return -15;
-            }
-            if lengths.len() < steps {
-                return -15;
-            }
-            -14
-        }
-        Answer::Refused(refusal) => refusal_number(refusal),
+    let steps = rewrite_steps(kind, rank, word)?;
+    if families.len() < steps || places.len() < steps || lengths.len() < steps {
+        return Err(Refusal::ListTooShort);
     }
+    Ok(())
 }
 
 // CO9, IC3: a rewriting to its end with the final word's length, of a kind and a rank that are bytes. Every output
-// is checked before any is written.
+// is checked before any is written. Returns the number of steps.
 fn to_end(
     kind: u8,
     rank: u8,
@@ -74,21 +50,19 @@ fn to_end(
     lengths: &mut [u16],
     out: &mut [u8],
     written: &mut [u64],
-) -> i64
-    ensures { (result, ((families.new, places.new, lengths.new, out.new), written.new))
+) -> Result<usize, Refusal>
+    ensures fits { IfOk result (λ l. l < 2 ^ 63) }
+    ensures numbers { (number_of (as_answer result), ((families.new, places.new, lengths.new, out.new), written.new))
         ≡ rewriting_to_end_listed kind rank word.now families.old places.old lengths.old
         out.old written.old }
 {
-    if written.len() < 1 {
-        return refused_written(kind, rank, word, families, places, lengths);
-    }
-    match rewrite_to_end(kind, rank, word, families, places, lengths, out) {
-        ToEnd::Ended { steps, length } => {
-            written[0] = length as u64;
-            steps_number(steps)
-        }
-        ToEnd::Refused(refusal) => refusal_number(refusal),
-    }
+    let Some(front) = written.first_chunk_mut() else {
+        check_lists(kind, rank, word, families, places, lengths)?;
+        return Err(Refusal::OutputTooShort);
+    };
+    let rewriting = rewrite_to_end(kind, rank, word, families, places, lengths, out)?;
+    *front = [rewriting.length as u64];
+    Ok(rewriting.steps)
 }
 
 // I20: rewrites the word always at the lowest place where a rule fits, until none fits. The family, the place and
@@ -109,7 +83,7 @@ pub fn winnathey_rewrite_to_end(
         ≡ rewriting_to_end_listed kind rank word.now families.old places.old lengths.old
         out.old written.old }
 {
-    to_end(
+    number_of(to_end(
         byte(kind),
         byte(rank),
         word,
@@ -118,5 +92,5 @@ pub fn winnathey_rewrite_to_end(
         lengths,
         out,
         written,
-    )
+    ))
 }

@@ -5,21 +5,21 @@ ghost use Rattle.coxeter.specs.Calls.{window_of_word, normal_form_of_word, produ
 ghost use Rattle.coxeter.specs.Calls.{presets_equal, hands_back, choice};
 ghost use Rattle.c_api.specs.Calls.{numbered, number_of, verdict_number, choice_number, crossing_numbers, listed};
 
-use crate::numbers::{byte, number, refusal_number, write_crossings};
-use window::{Choice, Verdict};
+use crate::numbers::{byte, number_of, refusal_number, write_crossings};
+use coxeter::Better;
 
 // I4: the window of a word, written to the front of `out`. Returns the number of its entries.
 pub fn winnathey_window_of_word(kind: u32, rank: u32, word: &[u8], out: &mut [i8]) -> i64
     ensures { (result, out.new) ≡ numbered (window_of_word kind rank word.now out.old) }
 {
-    number(window::window_of_word(byte(kind), byte(rank), word, out))
+    number_of(window::window_of_word(byte(kind), byte(rank), word, out))
 }
 
 // I6: the normal form of a word, written to the front of `out`. Returns its length.
 pub fn winnathey_normal_form_of_word(kind: u32, rank: u32, word: &[u8], out: &mut [u8]) -> i64
     ensures { (result, out.new) ≡ numbered (normal_form_of_word kind rank word.now out.old) }
 {
-    number(window::normal_form_of_word(byte(kind), byte(rank), word, out))
+    number_of(window::normal_form_of_word(byte(kind), byte(rank), word, out))
 }
 
 // I7: the product of two words of one kind and rank as a normal form, written to the front of `out`. Returns its
@@ -33,21 +33,21 @@ pub fn winnathey_product_of_words(
 ) -> i64
     ensures { (result, out.new) ≡ numbered (product_of_words kind rank first.now second.now out.old) }
 {
-    number(window::product_of_words(byte(kind), byte(rank), first, second, out))
+    number_of(window::product_of_words(byte(kind), byte(rank), first, second, out))
 }
 
 // I8: the inverse of a word as a normal form, written to the front of `out`. Returns its length.
 pub fn winnathey_inverse_of_word(kind: u32, rank: u32, word: &[u8], out: &mut [u8]) -> i64
     ensures { (result, out.new) ≡ numbered (inverse_of_word kind rank word.now out.old) }
 {
-    number(window::inverse_of_word(byte(kind), byte(rank), word, out))
+    number_of(window::inverse_of_word(byte(kind), byte(rank), word, out))
 }
 
 // I11: the length of a word's normal form.
 pub fn winnathey_length_of_word(kind: u32, rank: u32, word: &[u8]) -> i64
     ensures { result ≡ number_of (length_of_word kind rank word.now) }
 {
-    number(window::length_of_word(byte(kind), byte(rank), word))
+    number_of(window::length_of_word(byte(kind), byte(rank), word))
 }
 
 // I13: the length of a word's normal form as its three counts: inversions, negative sum pairs and negative entries
@@ -55,10 +55,10 @@ pub fn winnathey_length_of_word(kind: u32, rank: u32, word: &[u8]) -> i64
 pub fn winnathey_crossings_of_word(kind: u32, rank: u32, word: &[u8], counts: &mut [u64]) -> i64
     ensures { (result, counts.new) ≡ listed (crossing_numbers (crossings_of_word kind rank word.now)) counts.old }
 {
-    write_crossings(
+    number_of(write_crossings(
         window::crossings_of_word(byte(kind), byte(rank), word),
         counts,
-    )
+    ))
 }
 
 // I15: whether two presets show the same window, whatever their kinds and ranks: 1 is yes, 0 is no.
@@ -80,9 +80,9 @@ pub fn winnathey_same(
         byte(rank2),
         word2,
     ) {
-        Verdict::Yes => 1,
-        Verdict::No => 0,
-        Verdict::Refused(refusal) => refusal_number(refusal),
+        Ok(true) => 1,
+        Ok(false) => 0,
+        Err(refusal) => refusal_number(refusal.number()),
     }
 }
 
@@ -93,8 +93,8 @@ pub fn winnathey_better(kind: u32, rank: u32, first: &[u8], second: &[u8]) -> i6
         (shortlex second.now first.now)) }
 {
     match window::which_better(byte(kind), byte(rank), first, second) {
-        Choice::First => 1,
-        Choice::Second => 2,
-        Choice::Neither => 0,
+        Some(Better::First) => 1,
+        Some(Better::Second) => 2,
+        None => 0,
     }
 }

@@ -11,6 +11,7 @@ pub mod FirstRefusals
 pub mod LetterLaws
 pub mod Acceptance
 pub mod Groups
+pub mod Results
 pub mod Sizes
 pub mod Levels
 pub mod Steps

@@ -21,8 +21,8 @@ impl TryFrom<u8> for Kind {
 
     ghost try_from_gives = { λ k r. MatchResult r (λ kind. kind_number kind ≡ k) (λ refusal. number refusal ≡ check 5 (wrong_kind k)) };
 
-    fn try_from(number: u8) -> Result<Self, Refusal> {
-        match number {
+    fn try_from(k: u8) -> Result<Self, Refusal> {
+        match k {
             1 => Ok(Kind::A),
             2 => Ok(Kind::B),
             3 => Ok(Kind::D),
@@ -65,7 +65,7 @@ impl Kind {
     }
 }
 
-// A kind and a rank of it, which document 01 calls a rig.
+// K2, K4: a kind and a rank of it.
 #[derive(Clone, Copy)]
 pub struct Group {
     pub kind: Kind,

@@ -2,29 +2,25 @@
 // running sum, in kind D with a shifted sum after it. No sum is greater than the number of all windows, so all fit
 // 64 bits.
 ghost use Rattle.std.specs.Prelude.{◌≡◌, ◌+◌, ◌^◌, ◌≤◌, ◌<◌, length};
-ghost use Rattle.coxeter.specs.Kinds.{kind_of, lanes};
 ghost use Rattle.coxeter.specs.Length.{greatest_length};
 ghost use Rattle.coxeter.specs.Calls.{front};
 ghost use Rattle.distribution.specs.Distribution.{distribution};
-ghost use Rattle.distribution.specs.Calls.{table_refusal};
+ghost use Rattle.distribution.specs.Calls.{greatest_tabled};
 ghost use Rattle.distribution.proofs.Sums.{below};
 ghost use Rattle.distribution.proofs.Factors.{combined, with_shifted, sum_to, running, factor};
 ghost use Rattle.distribution.proofs.Products.{fewest, product};
 ghost use Rattle.distribution.proofs.Values.{values, value_at, Fit, CombinedFits, WithShiftedFit};
 
 use crate::lengths::{fewest_of, greatest_length, top_of};
+use coxeter::{Group, Kind};
 use distribution::Combination;
 
 // 1, 0, 0, ..: before the first level.
-fn set_one(kind: u8, counts: &mut [u64])
+fn set_one(kind: Kind, counts: &mut [u64])
     requires { 1 ≤ length counts.old }
-    ensures { counts.new ≡ values (product (kind_of kind) 0) (length counts.old) }
+    ensures { counts.new ≡ values (product kind 0) (length counts.old) }
 {
-    let mut l = 0;
-    while l < counts.len() {
-        counts[l] = 0;
-        l += 1;
-    }
+    counts.fill(0);
     counts[0] = 1;
 }
 
@@ -34,11 +30,9 @@ fn sum_up(counts: &mut [u64])
     ensures { counts.new ≡ values (sum_to (value_at counts.old)) (length counts.old) }
 {
     let mut sum: u64 = 0;
-    let mut l = 0;
-    while l < counts.len() {
-        sum += counts[l];
-        counts[l] = sum;
-        l += 1;
+    for x in counts.iter_mut() {
+        sum += *x;
+        *x = sum;
     }
 }
 
@@ -59,9 +53,7 @@ fn combine_shifted(counts: &mut [u64], b: usize, how: Combination)
     requires with_shifted_fit { WithShiftedFit how b (value_at counts.old) (length counts.old) }
     ensures { counts.new ≡ values (with_shifted how b (value_at counts.old)) (length counts.old) }
 {
-    let mut l = counts.len();
-    while b < l {
-        l -= 1;
+    for l in (b..counts.len()).rev() {
         counts[l] = combine(counts[l], counts[l - b], how);
     }
 }
@@ -77,47 +69,42 @@ fn run(counts: &mut [u64], c: usize)
 }
 
 // The factor of a level with c greater sizes.
-fn multiply(kind: u8, c: usize, counts: &mut [u64])
-    requires kind_bound { (fewest (kind_of kind) ≤ c) × (c ≤ 64) }
+fn multiply(kind: Kind, c: usize, counts: &mut [u64])
+    requires kind_bound { (fewest kind ≤ c) × (c ≤ 64) }
     requires counts_bound { below (value_at counts.old) (length counts.old) < 2 ^ 64 }
-    requires fit { Fit (factor (kind_of kind) c (value_at counts.old)) (length counts.old) }
-    ensures { counts.new ≡ values (factor (kind_of kind) c (value_at counts.old)) (length counts.old) }
+    requires fit { Fit (factor kind c (value_at counts.old)) (length counts.old) }
+    ensures { counts.new ≡ values (factor kind c (value_at counts.old)) (length counts.old) }
 {
-    if kind == 2 {
-        run(counts, 2 * c + 1);
-        return;
+    match kind {
+        Kind::A => run(counts, c),
+        Kind::B => run(counts, 2 * c + 1),
+        Kind::D => {
+            run(counts, c);
+            combine_shifted(counts, c, Combination::Sum);
+        }
     }
-    run(counts, c);
-    if kind == 1 {
-        return;
-    }
-    combine_shifted(counts, c, Combination::Sum);
 }
 
 // The numbers of windows of each length, one level after another from the last; those of fewer levels end earlier.
-fn count(kind: u8, rank: u8, m: usize, counts: &mut [u64])
-    requires rank_value { table_refusal kind rank ≡ 0 }
-    requires m_value { m ≡ lanes (kind_of kind) rank }
-    requires counts_len { length counts.old ≡ greatest_length (kind_of kind) rank + 1 }
-    ensures { counts.new ≡ distribution (kind_of kind) rank }
+fn count(group: Group, counts: &mut [u64])
+    requires tabled { group.rank ≤ greatest_tabled group.kind }
+    requires counts_len { length counts.old ≡ greatest_length group.kind group.rank + 1 }
+    ensures { counts.new ≡ distribution group.kind group.rank }
 {
-    set_one(kind, counts);
+    set_one(group.kind, counts);
     let mut d: usize = 1;
-    let mut c = fewest_of(kind);
-    while c < m {
-        d += top_of(kind, c);
-        multiply(kind, c, &mut counts[..d]);
-        c += 1;
+    for c in fewest_of(group.kind)..group.lanes() {
+        d += top_of(group.kind, c);
+        multiply(group.kind, c, &mut counts[..d]);
     }
 }
 
 // The same to the front of `counts`.
-pub(crate) fn write_counts(kind: u8, rank: u8, m: usize, counts: &mut [u64])
-    requires rank_value { table_refusal kind rank ≡ 0 }
-    requires m_value { m ≡ lanes (kind_of kind) rank }
-    requires rank_in_bounds { greatest_length (kind_of kind) rank + 1 ≤ length counts.old }
-    ensures { counts.new ≡ front (distribution (kind_of kind) rank) counts.old }
+pub(crate) fn write_counts(group: Group, counts: &mut [u64])
+    requires tabled { group.rank ≤ greatest_tabled group.kind }
+    requires rank_in_bounds { greatest_length group.kind group.rank + 1 ≤ length counts.old }
+    ensures { counts.new ≡ front (distribution group.kind group.rank) counts.old }
 {
-    let size = greatest_length(kind, rank) + 1;
-    count(kind, rank, m, &mut counts[..size]);
+    let size = greatest_length(group) + 1;
+    count(group, &mut counts[..size]);
 }

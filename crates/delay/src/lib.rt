@@ -8,50 +8,16 @@ mod counting;
 mod lengths;
 mod longest;
 
-ghost use Rattle.std.specs.Prelude.{◌≡◌};
-ghost use Rattle.coxeter.specs.Kinds.{kind_of, lanes};
-ghost use Rattle.distribution.specs.Calls.{TableYields, delay_table, table_refusal};
+ghost use Rattle.coxeter.specs.Kinds.{kind_of};
+ghost use Rattle.distribution.specs.answers.Table.{as_table};
+ghost use Rattle.distribution.specs.Calls.{TableYields, delay_table};
 
 use counting::write_counts;
-use coxeter::Lanes;
-pub use distribution::Table;
-pub use lengths::table_refusal;
-use lengths::{greatest_length, tabled_lanes};
+pub use coxeter::{Group, Refusal};
+pub use distribution::TableLengths;
+use lengths::greatest_length;
+pub use lengths::tabled_group;
 use longest::{write_form, write_longest};
-
-// The table of a kind and a rank with m lanes: check 14 of all three outputs, before any is written.
-fn write_table(
-    kind: u8,
-    rank: u8,
-    m: usize,
-    counts: &mut [u64],
-    entries: &mut [i8],
-    letters: &mut [u8],
-) -> Table
-    requires rank_value { table_refusal kind rank ≡ 0 }
-    requires m_value { m ≡ lanes (kind_of kind) rank }
-    ensures { TableYields (delay_table kind rank counts.old entries.old letters.old)
-        result counts.new entries.new letters.new }
-{
-    let l = greatest_length(kind, rank);
-    if counts.len() <= l {
-        return Table::Refused(14);
-    }
-    if entries.len() < m {
-        return Table::Refused(14);
-    }
-    if letters.len() < l {
-        return Table::Refused(14);
-    }
-    write_counts(kind, rank, m, counts);
-    write_longest(kind, rank, m, entries);
-    write_form(kind, rank, m, entries, letters);
-    Table::Written {
-        counts: l + 1,
-        entries: m,
-        letters: l,
-    }
-}
 
 // I24: writes how many windows have the length 0, 1, .. up to the greatest to the front of `counts`, the longest
 // window to that of `entries` and its normal form to that of `letters`, and returns how many numbers, entries and
@@ -62,12 +28,22 @@ pub fn delay_table(
     counts: &mut [u64],
     entries: &mut [i8],
     letters: &mut [u8],
-) -> Table
+) -> Result<TableLengths, Refusal>
     ensures { TableYields (delay_table kind rank counts.old entries.old letters.old)
-        result counts.new entries.new letters.new }
+        (as_table result) counts.new entries.new letters.new }
 {
-    match tabled_lanes(kind, rank) {
-        Lanes::Count(m) => write_table(kind, rank, m, counts, entries, letters),
-        Lanes::Refused(refusal) => Table::Refused(refusal),
+    let group = tabled_group(kind, rank)?;
+    let m = group.lanes();
+    let l = greatest_length(group);
+    if counts.len() <= l || entries.len() < m || letters.len() < l {
+        return Err(Refusal::OutputTooShort);
     }
+    write_counts(group, counts);
+    write_longest(group, entries);
+    write_form(group, entries, letters);
+    Ok(TableLengths {
+        counts: l + 1,
+        entries: m,
+        letters: l,
+    })
 }

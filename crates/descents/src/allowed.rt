@@ -1,9 +1,12 @@
 // Sets of allowed steps in a 64-bit number, one bit a step, bit 0 for step 1 (S1 of the specification): a bit is
 // asked for, and the bits above the rank are checked.
-ghost use Rattle.std.specs.Prelude.{◌≡◌, ◌≤◌};
+ghost use Rattle.std.specs.Prelude.{◌≡◌, ◌≤◌, IfOk};
+ghost use Rattle.coxeter.specs.Kinds.{kind_of};
+ghost use Rattle.coxeter.specs.Refusals.{refusal_of};
 ghost use Rattle.shortest_words.specs.Allowed.{allows, set_refusal};
 
-use refusals::rank_refusal;
+use coxeter::{Group, Refusal};
+use refusals::group_of;
 
 // Whether step s is allowed.
 pub(crate) fn is_allowed(allowed: u64, s: usize) -> bool
@@ -13,19 +16,15 @@ pub(crate) fn is_allowed(allowed: u64, s: usize) -> bool
     (allowed >> (s - 1)) % 2 == 1
 }
 
-// C5, C6, C16: the first refusal, or 0. At rank 64 every bit is a step, and no shift by 64 is made.
-pub(crate) fn set_refusal(kind: u8, rank: u8, allowed: u64) -> u8
-    ensures { result ≡ set_refusal kind rank allowed }
+// C5, C6, C16: the group of a kind and a rank with a set of its steps. At rank 64 every bit is a step, and no shift by 64
+// is made.
+pub(crate) fn group_with_set(kind: u8, rank: u8, allowed: u64) -> Result<Group, Refusal>
+    ensures refusal { refusal_of result ≡ set_refusal kind rank allowed }
+    ensures group { IfOk result (λ g. (g.kind ≡ kind_of kind) × (g.rank ≡ rank)) }
 {
-    let refusal = rank_refusal(kind, rank);
-    if refusal != 0 {
-        return refusal;
+    let group = group_of(kind, rank)?;
+    if rank < 64 && allowed >> rank != 0 {
+        return Err(Refusal::StepAboveRank);
     }
-    if 64 <= rank {
-        return 0;
-    }
-    if allowed >> rank != 0 {
-        return 16;
-    }
-    0
+    Ok(group)
 }

@@ -1,70 +1,59 @@
 // From one window to another over allowed steps, with no search: the normal form of the window between the two has
 // an allowed letter at every place exactly when some word over the allowed steps leads there, and is then the least
 // of those words.
-ghost use Rattle.std.specs.Prelude.{◌≡◌, not, ◌*◌, ◌≤◌, length};
+ghost use Rattle.std.specs.Prelude.{◌≡◌, not, ◌*◌, ◌≤◌};
 ghost use Rattle.coxeter.specs.Checks.{check, WordOf};
 ghost use Rattle.coxeter.specs.Calls.{Yields, writes};
-ghost use Rattle.shortest_words.specs.Allowed.{over, allows, set_refusal};
-ghost use Rattle.shortest_words.specs.BetweenCalls.{between_windows};
+ghost use Rattle.coxeter.specs.answers.Answer.{as_answer};
+ghost use Rattle.shortest_words.specs.Allowed.{over, allows};
+ghost use Rattle.shortest_words.specs.Between.{between};
+ghost use Rattle.shortest_words.specs.BetweenCalls.{unreachable, between_windows};
 
-use crate::allowed::{is_allowed, set_refusal};
-use crate::work::{letters_64, letters_256, letters_4096};
-use window::{Answer, normal_form_between};
+use crate::allowed::{group_with_set, is_allowed};
+use coxeter::Refusal;
+use refusals::accepted_windows;
+use window::{Windows, write_form_between};
 
 // Whether every letter of a word of steps is allowed.
 fn are_allowed(allowed: u64, word: &[u8]) -> bool
     requires { WordOf 64 word.now }
     ensures { result ≡ over (allows allowed) word.now }
 {
-    let mut i = 0;
-    while i < word.len() {
-        if !is_allowed(allowed, word[i] as usize) {
-            return false;
-        }
-        i += 1;
-    }
-    true
+    word.iter().all(|s| is_allowed(allowed, *s as usize))
 }
 
 // Writes a word of steps to the front of `out`, or refuses with 19 where a letter is not allowed, then 14.
-fn write_allowed(allowed: u64, word: &[u8], out: &mut [u8]) -> Answer
+fn write_allowed(allowed: u64, word: &[u8], out: &mut [u8]) -> Result<usize, Refusal>
     requires { WordOf 64 word.now }
     ensures { Yields (writes (check 19 (not (over (allows allowed) word.now))) word.now out.old)
-        result out.new }
+        (as_answer result) out.new }
 {
     if !are_allowed(allowed, word) {
-        return Answer::Refused(19);
+        return Err(Refusal::OutOfReach);
     }
     let l = word.len();
     if out.len() < l {
-        return Answer::Refused(14);
+        return Err(Refusal::OutputTooShort);
     }
     out[..l].copy_from_slice(word);
-    Answer::Length(l)
+    Ok(l)
 }
 
-// The call after checks 5, 6 and 16. The normal form of the window between the two is first written to `form`, which
-// has room for it. The windows are lent on as parts of full length, so that their pointers and lengths are stored anew
-// and not copied in pairs that were just stored.
-fn write_between(
-    kind: u8,
-    rank: u8,
+// From one window of a group to another, over allowed steps. The normal form of the window between the two is first
+// written to a work array of N letters, which has room for it; the fewer they are, the less time it takes to make.
+fn write_between<const N: usize>(
     allowed: u64,
-    from: &[i8],
-    to: &[i8],
-    form: &mut [u8],
+    pair: Windows,
     out: &mut [u8],
-) -> Answer
-    requires allowed_value { set_refusal kind rank allowed ≡ 0 }
-    requires rank_in_bounds { rank * rank ≤ length form.old }
-    ensures { Yields (between_windows kind rank allowed from.now to.now out.old) result out.new }
+) -> Result<usize, Refusal>
+    requires rank_in_bounds { pair.group.rank * pair.group.rank ≤ N }
+    requires n_bound { N ≤ 4096 }
+    ensures { Yields (writes (check 19 (unreachable pair.entry.group.kind pair.entry.group.rank allowed pair.entry.first.now pair.entry.second.now))
+        (between pair.entry.group.kind pair.entry.group.rank pair.entry.first.now pair.entry.second.now) out.old)
+        (as_answer result) out.new }
 {
-    let a = from.len();
-    let b = to.len();
-    let answer = normal_form_between(kind, rank, &from[..a], &to[..b], form);
-    let Answer::Length(l) = answer else {
-        return answer;
-    };
+    let mut form = [0u8; N];
+    let l = write_form_between(pair, &mut form)?;
     write_allowed(allowed, &form[..l], out)
 }
 
@@ -78,21 +67,19 @@ pub fn between_windows(
     from: &[i8],
     to: &[i8],
     out: &mut [u8],
-) -> Answer
-    ensures { Yields (between_windows kind rank allowed from.now to.now out.old) result out.new }
+) -> Result<usize, Refusal>
+    ensures { Yields (between_windows kind rank allowed from.now to.now out.old) (as_answer result) out.new }
 {
-    let refusal = set_refusal(kind, rank, allowed);
-    if refusal != 0 {
-        return Answer::Refused(refusal);
+    group_with_set(kind, rank, allowed)?;
+    let (from, to) = accepted_windows(kind, rank, from, to)?;
+    let pair = Windows {
+        group: from.group,
+        first: from.entries,
+        second: to.entries,
+    };
+    match rank {
+        0..=8 => write_between::<64>(allowed, pair, out),
+        9..=16 => write_between::<256>(allowed, pair, out),
+        _ => write_between::<4096>(allowed, pair, out),
     }
-    if rank <= 8 {
-        let mut form = letters_64();
-        return write_between(kind, rank, allowed, from, to, &mut form, out);
-    }
-    if rank <= 16 {
-        let mut form = letters_256();
-        return write_between(kind, rank, allowed, from, to, &mut form, out);
-    }
-    let mut form = letters_4096();
-    write_between(kind, rank, allowed, from, to, &mut form, out)
 }

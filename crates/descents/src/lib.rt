@@ -11,40 +11,43 @@ mod splitting;
 mod steps;
 mod stripping;
 mod walk;
-mod work;
 
-ghost use Rattle.std.specs.Prelude.{◌≡◌};
+ghost use Rattle.std.specs.Prelude.{◌≡◌, IfOk};
 ghost use Rattle.coxeter.specs.Kinds.{kind_of};
 ghost use Rattle.coxeter.specs.Windows.{window};
-ghost use Rattle.coxeter.specs.Checks.{◌then◌, word_refusal, RankOf, WordOf};
+ghost use Rattle.coxeter.specs.Refusals.{refusal_of};
+ghost use Rattle.coxeter.specs.Checks.{◌then◌, word_refusal};
 ghost use Rattle.coxeter.specs.NormalForm.{word_normal_form};
+ghost use Rattle.shortest_words.specs.answers.Fallback.{as_fallback};
+ghost use Rattle.shortest_words.specs.answers.Split.{as_split};
 ghost use Rattle.shortest_words.specs.Allowed.{set_refusal};
 ghost use Rattle.shortest_words.specs.Calls.{FellBack};
 ghost use Rattle.shortest_words.specs.SplitCalls.{splitting, SplitYields};
 ghost use Rattle.shortest_words.proofs.Verdicts.{Decided};
 
-use allowed::set_refusal;
+use allowed::group_with_set;
 pub use between::between_windows;
-use refusals::{preset_refusal, ranked_words_refusal};
-pub use shortest_words::{Fallback, Split};
+pub use coxeter::{Refusal, Word};
+use refusals::{accepted_word, accepted_words};
+pub use shortest_words::SplitLengths;
 use splitting::split_accepted;
 use walk::decide;
-pub use window::Answer;
-use work::{entries_64, letters_4096, show, write_form};
+use window::{write_form_of_word, write_window};
 
-// The verdict on two accepted words of one kind and rank, by the normal form of the first and the window of the second.
-fn decide_words(kind: u8, rank: u8, present: &[u8], simpler: &[u8], places: &mut [u16]) -> Fallback
-    requires rank_of { RankOf kind rank }
-    requires word_of { WordOf rank present.now }
-    requires word_of_2 { WordOf rank simpler.now }
-    ensures { Decided (kind_of kind) rank (word_normal_form (kind_of kind) rank present.now)
-        (window (kind_of kind) rank simpler.now) places.old result places.new }
+// The verdict on two words of one group, by the normal form of the first and the window of the second.
+fn decide_words(present: Word, simpler: Word, places: &mut [u16]) -> Result<Option<usize>, Refusal>
+    requires same_kind { simpler.group.kind ≡ present.group.kind }
+    requires same_rank { simpler.group.rank ≡ present.group.rank }
+    ensures { Decided present.entry.group.kind present.entry.group.rank
+        (word_normal_form present.entry.group.kind present.entry.group.rank present.entry.letters.now)
+        (window present.entry.group.kind present.entry.group.rank simpler.entry.letters.now)
+        places.old (as_fallback result) places.new }
 {
-    let mut target = entries_64();
-    let m = show(kind, rank, simpler, &mut target);
-    let mut form = letters_4096();
-    let l = write_form(kind, rank, present, &mut form);
-    decide(kind, rank, &mut form[..l], &mut target[..m], places)
+    let mut target = [0i8; 64];
+    let m = write_window(simpler, &mut target)?;
+    let mut form = [0u8; 4096];
+    let l = write_form_of_word(present, &mut form)?;
+    decide(present.group, &mut form[..l], &mut target[..m], places)
 }
 
 // I18: whether the simpler word's window can be reached by removing letters from the normal form of the present word.
@@ -56,25 +59,25 @@ pub fn fallback_places(
     present: &[u8],
     simpler: &[u8],
     places: &mut [u16],
-) -> Fallback
-    ensures { FellBack kind rank present.now simpler.now places.old result places.new }
+) -> Result<Option<usize>, Refusal>
+    ensures { FellBack kind rank present.now simpler.now places.old (as_fallback result) places.new }
 {
-    let refusal = ranked_words_refusal(kind, rank, present, simpler);
-    if refusal != 0 {
-        return Fallback::Refused(refusal);
-    }
-    decide_words(kind, rank, present, simpler, places)
+    let (present, simpler) = accepted_words(kind, rank, present, simpler)?;
+    decide_words(present, simpler, places)
 }
 
-// I33: checks 5, 6, 16, 7, 8 of a split, in this order: the first refusal, or 0.
-pub fn split_refusal(kind: u8, rank: u8, allowed: u64, word: &[u8]) -> u8
-    ensures { result ≡ (set_refusal kind rank allowed then word_refusal rank word.now) }
+// I33: the word of a split, after checks 5, 6, 16, 7, 8, in this order.
+pub fn check_split<'a>(
+    kind: u8,
+    rank: u8,
+    allowed: u64,
+    word: &'a [u8],
+) -> Result<Word<'a>, Refusal>
+    ensures refusal { refusal_of result ≡ (set_refusal kind rank allowed then word_refusal rank word.now) }
+    ensures word { IfOk result (λ u. (u.group.kind ≡ kind_of kind) × (u.group.rank ≡ rank) × (u.letters ≡ word.entry)) }
 {
-    let refusal = set_refusal(kind, rank, allowed);
-    if refusal != 0 {
-        return refusal;
-    }
-    preset_refusal(kind, rank, word)
+    group_with_set(kind, rank, allowed)?;
+    accepted_word(kind, rank, word)
 }
 
 // I22: splits a word by the set `allowed`, bit 0 for step 1: a first word over allowed steps, then one whose window
@@ -87,13 +90,10 @@ pub fn split_word(
     word: &[u8],
     first: &mut [u8],
     second: &mut [u8],
-) -> Split
+) -> Result<SplitLengths, Refusal>
     ensures { SplitYields (splitting kind rank allowed word.now first.old second.old)
-        result first.new second.new }
+        (as_split result) first.new second.new }
 {
-    let refusal = split_refusal(kind, rank, allowed, word);
-    if refusal != 0 {
-        return Split::Refused(refusal);
-    }
-    split_accepted(kind, rank, allowed, word, first, second)
+    let word = check_split(kind, rank, allowed, word)?;
+    split_accepted(word, allowed, first, second)
 }

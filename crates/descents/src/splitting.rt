@@ -1,114 +1,81 @@
 // The two words of a split, from the window of the preset.
-ghost use Rattle.std.specs.Prelude.{◌≡◌, ◌≤◌, ltb, length};
-ghost use Rattle.coxeter.specs.Kinds.{kind_of};
 ghost use Rattle.coxeter.specs.Windows.{window, product, inverse};
-ghost use Rattle.coxeter.specs.Length.{window_length};
-ghost use Rattle.coxeter.specs.Checks.{RankOf, WordOf, WindowOf};
 ghost use Rattle.coxeter.specs.NormalForm.{normal_form};
-ghost use Rattle.coxeter.specs.Calls.{Yields, writes};
+ghost use Rattle.shortest_words.specs.answers.Split.{as_split};
 ghost use Rattle.shortest_words.specs.Allowed.{allows};
 ghost use Rattle.shortest_words.specs.Split.{first_word, second_word};
 ghost use Rattle.shortest_words.specs.SplitCalls.{split_outcome, SplitYields};
 
 use crate::stripping::strip;
-use crate::work::{entries_64, invert, measure, show};
-use shortest_words::Split;
-use window::{Answer, normal_form_of_inverse, normal_form_of_product};
+use coxeter::{Refusal, Window, Word};
+use shortest_words::SplitLengths;
+use window::{
+    Windows, lacks_room, write_form_of_inverse, write_form_of_product, write_inverse, write_window,
+};
 
-// Check 14: whether `room` is less than the length of the normal form of an accepted window, or of its inverse, which
-// is as long. No normal form has more than n × n letters, so that the length is measured only if there is less room.
-fn lacks_room(kind: u8, rank: u8, w: &[i8], room: usize) -> bool
-    requires rank_of { RankOf kind rank }
-    requires window_of { WindowOf (kind_of kind) rank w.now }
-    ensures { result ≡ ltb room (window_length (kind_of kind) w.now) }
+// The two words of a window, the first of the pair. The second is the inverse of what is left of it: what was taken off
+// is the product of the two. The second output is checked before the first is written.
+fn write_parts(pair: Windows, first: &mut [u8], second: &mut [u8]) -> Result<SplitLengths, Refusal>
+    ensures { SplitYields (split_outcome 0
+        (normal_form pair.entry.group.kind pair.entry.group.rank (product pair.entry.first.now pair.entry.second.now))
+        (normal_form pair.entry.group.kind pair.entry.group.rank (inverse pair.entry.second.now)) first.old second.old)
+        (as_split result) first.new second.new }
 {
-    let n = rank as usize;
-    if n * n <= room {
-        return false;
-    }
-    room < measure(kind, rank, w)
-}
-
-// The normal form of an accepted window's inverse, at the front of an output with room for it. Returns its length. The
-// call below refuses nothing that is accepted and has room, so the other case is not reached.
-fn write_inverse(kind: u8, rank: u8, w: &[i8], out: &mut [u8]) -> usize
-    requires rank_of { RankOf kind rank × WindowOf (kind_of kind) rank w.now }
-    requires w_in_bounds { length (normal_form (kind_of kind) rank (inverse w.now)) ≤ length out.old }
-    ensures { Yields (writes 0 (normal_form (kind_of kind) rank (inverse w.now)) out.old)
-        (Answer.Length result) out.new }
-{
-    let Answer::Length(l) = normal_form_of_inverse(kind, rank, w, out) else {
-        return 0;
+    let rest = Window {
+        group: pair.group,
+        entries: pair.second,
     };
-    l
+    if lacks_room(rest, second.len()) {
+        return Err(Refusal::OutputTooShort);
+    }
+    let first = write_form_of_product(pair, first)?;
+    let second = write_form_of_inverse(rest, second)?;
+    Ok(SplitLengths { first, second })
 }
 
-// The two words of an accepted window w, `rest` being the inverse of what is left of it: what was taken off is w
-// times `rest`. The second output is checked before the first is written.
-fn write_parts(
-    kind: u8,
-    rank: u8,
-    w: &[i8],
-    rest: &[i8],
-    first: &mut [u8],
-    second: &mut [u8],
-) -> Split
-    requires rank_of { RankOf kind rank }
-    requires window_of { WindowOf (kind_of kind) rank w.now }
-    requires window_of_2 { WindowOf (kind_of kind) rank rest.now }
-    ensures { SplitYields (split_outcome 0 (normal_form (kind_of kind) rank (product w.now rest.now))
-        (normal_form (kind_of kind) rank (inverse rest.now)) first.old second.old)
-        result first.new second.new }
-{
-    if lacks_room(kind, rank, rest, second.len()) {
-        return Split::Refused(14);
-    }
-    let Answer::Length(l) = normal_form_of_product(kind, rank, w, rest, first) else {
-        return Split::Refused(14);
-    };
-    let m = write_inverse(kind, rank, rest, second);
-    Split::Words {
-        first: l,
-        second: m,
-    }
-}
-
-// The split of an accepted window: steps are taken off its front, that is, off the end of its inverse.
+// The split of a window: steps are taken off its front, that is, off the end of its inverse.
 fn split_window(
-    kind: u8,
-    rank: u8,
+    w: Window,
     allowed: u64,
-    w: &[i8],
     first: &mut [u8],
     second: &mut [u8],
-) -> Split
-    requires { RankOf kind rank × WindowOf (kind_of kind) rank w.now }
-    ensures { SplitYields (split_outcome 0 (first_word (allows allowed) (kind_of kind) rank w.now)
-        (second_word (allows allowed) (kind_of kind) rank w.now) first.old second.old)
-        result first.new second.new }
+) -> Result<SplitLengths, Refusal>
+    ensures { SplitYields (split_outcome 0
+        (first_word (allows allowed) w.entry.group.kind w.entry.group.rank w.entry.entries.now)
+        (second_word (allows allowed) w.entry.group.kind w.entry.group.rank w.entry.entries.now) first.old second.old)
+        (as_split result) first.new second.new }
 {
-    let m = w.len();
-    let mut rest = entries_64();
-    invert(kind, rank, w, &mut rest);
-    strip(kind, rank as usize, allowed, &mut rest[..m]);
-    write_parts(kind, rank, w, &rest[..m], first, second)
+    let mut back = [0i8; 64];
+    let m = write_inverse(w, &mut back)?;
+    let rest = &mut back[..m];
+    strip(w.group, allowed, rest);
+    let pair = Windows {
+        group: w.group,
+        first: w.entries,
+        second: rest,
+    };
+    write_parts(pair, first, second)
 }
 
-// The split of an accepted word.
+// The split of a word.
 pub(crate) fn split_accepted(
-    kind: u8,
-    rank: u8,
+    word: Word,
     allowed: u64,
-    word: &[u8],
     first: &mut [u8],
     second: &mut [u8],
-) -> Split
-    requires { RankOf kind rank × WordOf rank word.now }
-    ensures { SplitYields (split_outcome 0 (first_word (allows allowed) (kind_of kind) rank (window (kind_of kind) rank word.now))
-        (second_word (allows allowed) (kind_of kind) rank (window (kind_of kind) rank word.now))
-        first.old second.old) result first.new second.new }
+) -> Result<SplitLengths, Refusal>
+    ensures { SplitYields (split_outcome 0
+        (first_word (allows allowed) word.entry.group.kind word.entry.group.rank
+        (window word.entry.group.kind word.entry.group.rank word.entry.letters.now))
+        (second_word (allows allowed) word.entry.group.kind word.entry.group.rank
+        (window word.entry.group.kind word.entry.group.rank word.entry.letters.now))
+        first.old second.old) (as_split result) first.new second.new }
 {
-    let mut w = entries_64();
-    let m = show(kind, rank, word, &mut w);
-    split_window(kind, rank, allowed, &w[..m], first, second)
+    let mut work = [0i8; 64];
+    let m = write_window(word, &mut work)?;
+    let w = Window {
+        group: word.group,
+        entries: &work[..m],
+    };
+    split_window(w, allowed, first, second)
 }

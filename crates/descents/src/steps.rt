@@ -1,13 +1,13 @@
 // Steps that make a window shorter (descents), taken in place: one comparison of two entries, and where they are
 // crossed one or two stores.
 ghost use Rattle.std.specs.Prelude.{◌≡◌, ◌+◌, ◌<◌, ◌≤◌, nat_abs, pos, neg_ℤ, length, get_or};
-ghost use Rattle.coxeter.specs.Kinds.{kind_of, pick};
+ghost use Rattle.coxeter.specs.Kinds.{pick};
 ghost use Rattle.coxeter.specs.Windows.{from, swap, negate_first, swap_negate, act};
 ghost use Rattle.coxeter.specs.Length.{later, negative};
 ghost use Rattle.coxeter.specs.Checks.{WindowOf};
-ghost use Rattle.coxeter.proofs.Acceptance.{Ranked};
 ghost use Rattle.shortest_words.specs.Descents.{is_descent};
 
+use coxeter::{Group, Kind};
 use refusals::is_negative;
 
 // Whether x stands later than y in the order 1, 2, .., m, -m, .., -2, -1: of one sign, where y is below x, and else
@@ -69,18 +69,18 @@ fn take_swap_negate_descent(w: &mut [i8], p: usize) -> bool
 
 // Step s, taken where it makes the window shorter. Returns whether it does. Below the number of entries a step
 // swaps, in every kind; any other is step n of B or D.
-pub(crate) fn take_descent(kind: u8, n: usize, s: usize, w: &mut [i8]) -> bool
-    requires le_s { (1 ≤ s) × (s ≤ n) }
-    requires ranked { Ranked (kind_of kind) n }
-    requires window_of { WindowOf (kind_of kind) n w.old }
-    ensures { (result ≡ is_descent (kind_of kind) n s w.old)
-        × (w.new ≡ pick result (act (kind_of kind) n s w.old) w.old) }
+pub(crate) fn take_descent(group: Group, s: usize, w: &mut [i8]) -> bool
+    requires le_s { (1 ≤ s) × (s ≤ group.rank) }
+    requires window_of { WindowOf group.kind group.rank w.old }
+    ensures { (result ≡ is_descent group.kind group.rank s w.old)
+        × (w.new ≡ pick result (act group.kind group.rank s w.old) w.old) }
 {
     if s < w.len() {
         return take_swap_descent(w, s - 1);
     }
-    if kind == 2 {
-        return take_negate_descent(w, n - 1);
+    let n = group.rank as usize;
+    match group.kind {
+        Kind::B => take_negate_descent(w, n - 1),
+        Kind::A | Kind::D => take_swap_negate_descent(w, n - 2),
     }
-    take_swap_negate_descent(w, n - 2)
 }

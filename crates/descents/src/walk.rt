@@ -1,31 +1,27 @@
 // The walk through a word from its last letter to the first. A letter that makes the target shorter is kept, and
 // the target steps back; the word has a part-list with the target's window exactly when the target ends straight.
 ghost use Rattle.std.specs.Prelude.{◌≡◌, [], ◌≤◌, length};
-ghost use Rattle.coxeter.specs.Kinds.{kind_of};
 ghost use Rattle.coxeter.specs.Windows.{identity};
-ghost use Rattle.coxeter.specs.Checks.{RankOf, WordOf, WindowOf};
+ghost use Rattle.coxeter.specs.Checks.{WordOf, WindowOf};
 ghost use Rattle.coxeter.specs.Calls.{front, same_window};
-ghost use Rattle.coxeter.proofs.Acceptance.{Ranked};
+ghost use Rattle.shortest_words.specs.answers.Fallback.{as_fallback};
 ghost use Rattle.shortest_words.proofs.FallbackWalk.{left_over, places_kept, marked};
 ghost use Rattle.shortest_words.proofs.Verdicts.{Decided};
 
 use crate::steps::take_descent;
-use shortest_words::Fallback;
+use coxeter::{Group, Refusal};
 
 // A letter that is not kept becomes 0. Returns how many are kept; `w` becomes what is left of the target.
-fn keep_letters(kind: u8, n: usize, word: &mut [u8], w: &mut [i8]) -> usize
-    requires ranked { Ranked (kind_of kind) n }
-    requires word_of { WordOf n word.old }
-    requires window_of { WindowOf (kind_of kind) n w.old }
+fn keep_letters(group: Group, word: &mut [u8], w: &mut [i8]) -> usize
+    requires word_of { WordOf group.rank word.old }
+    requires window_of { WindowOf group.kind group.rank w.old }
     ensures { (result ≡ length (marked 0 word.new))
-        × (marked 0 word.new ≡ places_kept (kind_of kind) n word.old (length word.old) w.old [])
-        × (w.new ≡ left_over (kind_of kind) n word.old (length word.old) w.old) }
+        × (marked 0 word.new ≡ places_kept group.kind group.rank word.old (length word.old) w.old [])
+        × (w.new ≡ left_over group.kind group.rank word.old (length word.old) w.old) }
 {
     let mut kept: usize = 0;
-    let mut i = word.len();
-    while 0 < i {
-        i -= 1;
-        if take_descent(kind, n, word[i] as usize, w) {
+    for i in (0..word.len()).rev() {
+        if take_descent(group, word[i] as usize, w) {
             kept += 1;
         } else {
             word[i] = 0;
@@ -38,12 +34,10 @@ fn is_identity(w: &[i8]) -> bool
     requires { length w.now ≤ 127 }
     ensures { result ≡ same_window w.now (identity (length w.now)) }
 {
-    let mut i = 0;
-    while i < w.len() {
-        if w[i] != (i + 1) as i8 {
+    for (i, x) in w.iter().enumerate() {
+        if *x != (i + 1) as i8 {
             return false;
         }
-        i += 1;
     }
     true
 }
@@ -55,37 +49,33 @@ fn write_places(word: &[u8], places: &mut [u16])
     ensures { places.new ≡ front (marked 0 word.now) places.old }
 {
     let mut at = 0;
-    let mut i = 0;
-    while i < word.len() {
-        if word[i] != 0 {
+    for (i, s) in word.iter().enumerate() {
+        if *s != 0 {
             places[at] = i as u16;
             at += 1;
         }
-        i += 1;
     }
 }
 
 // The verdict on an accepted word and an accepted target, both used up, and the places. A yes with too few of them
 // is refused.
 pub(crate) fn decide(
-    kind: u8,
-    rank: u8,
+    group: Group,
     word: &mut [u8],
     w: &mut [i8],
     places: &mut [u16],
-) -> Fallback
-    requires rank_of { RankOf kind rank }
-    requires word_of { WordOf rank word.old }
-    requires window_of { WindowOf (kind_of kind) rank w.old }
-    ensures { Decided (kind_of kind) rank word.old w.old places.old result places.new }
+) -> Result<Option<usize>, Refusal>
+    requires word_of { WordOf group.rank word.old }
+    requires window_of { WindowOf group.kind group.rank w.old }
+    ensures { Decided group.kind group.rank word.old w.old places.old (as_fallback result) places.new }
 {
-    let kept = keep_letters(kind, rank as usize, word, w);
-    if is_identity(w) {
-        if places.len() < kept {
-            return Fallback::Refused(14);
-        }
-        write_places(word, places);
-        return Fallback::Kept(kept);
+    let kept = keep_letters(group, word, w);
+    if !is_identity(w) {
+        return Ok(None);
     }
-    Fallback::No
+    if places.len() < kept {
+        return Err(Refusal::OutputTooShort);
+    }
+    write_places(word, places);
+    Ok(Some(kept))
 }

@@ -18,3 +18,4 @@ pub mod Firsts
 pub mod Sentences
 pub mod RefusalSentences
 pub mod LongestEntries
+pub mod Results

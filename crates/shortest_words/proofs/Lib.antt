@@ -32,3 +32,4 @@ pub mod AllowedWordSentences
 pub mod SplitSentences
 pub mod BetweenSentences
 pub mod Vectors
+pub mod Results

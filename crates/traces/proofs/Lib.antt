@@ -17,3 +17,4 @@ pub mod ReadingSteps
 pub mod Tracing
 pub mod StepBounds
 pub mod StepsReached
+pub mod Results

@@ -17,12 +17,9 @@ pub record Filled (l : ℕ) (f g : ℕ → ℕ) (m : ℕ) (w : List ℕ) : Type 
   pub front : (i : ℕ) → i < m → i < l → value_at w i ≡ f i
   pub rest : (i : ℕ) → i < m → l ≤ i → value_at w i ≡ g i
 
--- nothing is filled yet, from the start or from the end
+-- nothing is filled yet
 pub filled_none : {f : ℕ → ℕ} {w : List ℕ} → Filled 0 f (value_at w) (length w) w
 filled_none = record { size = refl; front = λ i o h. absurd (omega arith); rest = λ i o h. refl }
-
-pub filled_none_back : {g : ℕ → ℕ} {w : List ℕ} → Filled (length w) (value_at w) g (length w) w
-filled_none_back = record { size = refl; front = λ i o h. refl; rest = λ i o h. absurd (omega arith) }
 
 module _ {l : ℕ} {f g : ℕ → ℕ} {m : ℕ} {w : List ℕ} (h : Filled l f g m w) where
   -- one number more is done: every other one stays on its side of the place

@@ -8,17 +8,16 @@ use Prim.Native.Nat.{ℕ, suc, ◌+◌, ◌^◌, ◌≤◌, ◌<◌}
 use native.Mathlib.Omega.{arith}
 use lib.ListN.{length, take, drop}
 use Rattle.coxeter.specs.declared.Kind.{Kind}
-use Rattle.coxeter.specs.Kinds.{kind_of, lanes, least}
+use Rattle.coxeter.specs.Kinds.{lanes, least}
 use Rattle.coxeter.specs.Length.{greatest_length}
 use Rattle.coxeter.specs.NormalForm.{levels}
-use Rattle.coxeter.proofs.Acceptance.{lanes_le}
+use Rattle.coxeter.proofs.Groups.{InRange}
 use Rattle.distribution.specs.Distribution.{of_length, distribution}
-use Rattle.distribution.specs.Calls.{greatest_tabled, table_refusal}
+use Rattle.distribution.specs.Calls.{greatest_tabled}
 use Rattle.distribution.proofs.Sums.{below, below_same}
 use Rattle.distribution.proofs.Factors.{factor, factor_same}
 use Rattle.distribution.proofs.Products.{fewest, product, lanes-levels, top, degree, degree_le}
 use Rattle.distribution.proofs.Products.{degree-greatest, product_beyond, of_length-product, below-product-fits, product-fits}
-use Rattle.distribution.proofs.Outcomes.{table_accepted}
 use Rattle.distribution.proofs.Values.{values, value_at, Fit, length-values, value_at-values, values_same, take-values, values-front}
 
 -- ---- before a turn
@@ -49,9 +48,9 @@ pub record Turn (k : Kind) (n : ℕ) (counts : List ℕ) (d c e : ℕ) : Type 0 
   pub lower : c < lanes k n
   pub tops : e ≡ top k c
 
--- m lanes have at most 64 sizes
-pub sizes_le : (k n m c : ℕ) → table_refusal k n ≡ 0 → m ≡ lanes (kind_of k) n → c < m → c ≤ 64
-sizes_le k n m c r l o = omega (arith, lanes_le k n m (table_accepted k n r) l)
+pub turn_of : (k : Kind) (n : ℕ) {counts : List ℕ} {d c m e : ℕ} → InRange k n → n ≤ greatest_tabled k → Counted k n counts d c → c < m → m ≡ lanes k n
+    → e ≡ top k c → Turn k n counts d c e
+turn_of k n r g h o l t = record { rank = (r.0, g); counted = h; lower = rw l at o; tops = t }
 
 module _ {k : Kind} {n : ℕ} {counts : List ℕ} {d c e : ℕ} (turn : Turn k n counts d c e) where
   abbrev t : ℕ

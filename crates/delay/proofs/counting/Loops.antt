@@ -1,15 +1,16 @@
 -- One turn of each loop of `counting`: what is read, that it fits 64 bits, and what is then filled.
 -- Sections: sums from the start; shifted sums from the end; 1, 0, 0, ...
 -- Assumes nothing.
-use mathlib.Core.Path.{◌≡◌, refl, sym, ap, ap₂, ◌∙◌}
+use mathlib.Core.Path.{◌≡◌, sym, ap, ap₂, ◌∙◌}
 use mathlib.Core.List.{List}
 use Prim.Native.Nat.{ℕ, ◌+◌, ◌-◌, ◌^◌, ◌≤◌, ◌<◌}
 use native.Mathlib.Omega.{arith}
-use native.Mathlib.Nat.{add-zero, sub-zero, lt_of_not-le}
-use native.Mathlib.Decide.{dec_lt}
+use native.Mathlib.Nat.{add-zero, sub-zero}
+use native.Mathlib.Decide.{ℕ_discrete}
 use native.Mathlib.Numerals.{add-one}
 use borrow.Author.Tests.{ne_eqb}
-use lib.ListN.{get_or, set}
+use lib.ListN.{get_or, set, length-set, replicate, length-replicate, get_or-replicate}
+use lib.Seq.{get_or-set_same, get_or-set_other}
 use Rattle.coxeter.specs.declared.Kind.{Kind}
 use Rattle.coxeter.specs.Length.{one}
 use Rattle.distribution.specs.declared.Combination.{Combination}
@@ -59,14 +60,13 @@ module _ (how : Combination) {f : ℕ → ℕ} {m : ℕ} {w : List ℕ} {l b : �
 
 -- ---- 1, 0, 0, ..
 
-pub one_start : {g : ℕ → ℕ} {m : ℕ} {w : List ℕ} {l : ℕ} (k : Kind) → Filled l (λ i. 0) g m w → m ≤ l → 1 ≤ m → set w 0 1 ≡ values (product k 0) m
+pub one_start : (k : Kind) (m : ℕ) → 1 ≤ m → set (replicate m 0) 0 1 ≡ values (product k 0) m
 unfolding product one
-one_start {m} {w} k h e o =
-    let zeros : Filled 0 (product k 0) (λ i. 0) m w =
-    record { size = h.size; front = λ i p q. absurd (omega arith); rest = λ i p q. h.front i p (omega arith) } in
-    let n = filled_next zeros o refl in
-    values_eq (set w 0 1) (product k 0) m n.size
-    (λ i p. elim (dec_lt i 1) [
-      | yes q ↦ n.front i p q
-      | no q ↦ n.rest i p (omega (arith, lt_of_not-le q)) ∙ rw (ne_eqb 0 i (λ s. omega (arith, lt_of_not-le q)))
+one_start k m o =
+    let zeros = replicate m 0 in
+    let size = length-replicate m 0 in
+    values_eq (set zeros 0 1) (product k 0) m (length-set zeros 0 1 ∙ size)
+    (λ i p. elim (ℕ_discrete i 0) [
+      | yes e ↦ rw e (get_or-set_same zeros 0 1 0 (omega (arith, size)))
+      | no f ↦ get_or-set_other zeros 0 i 1 0 f ∙ get_or-replicate m i 0 0 p ∙ rw (ne_eqb 0 i (λ e. f (sym e)))
     ])

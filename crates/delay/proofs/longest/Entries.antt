@@ -9,25 +9,26 @@ use Prim.Native.Nat.{ℕ, zero, suc, ◌+◌, ◌-◌, ◌%◌, ◌≤◌, ◌<�
 use native.Mathlib.Omega.{arith}
 use native.Mathlib.Nat.{add-zero}
 use native.Mathlib.Numerals.{add-one}
-use borrow.Author.Tests.{eq-eqb, le-ltb}
+use borrow.Author.Tests.{le-ltb}
 use lib.IntN.{ℤ, pos, negsuc, neg_ℤ, ◌-ℤ◌}
 use lib.ListN.{length, get_or, set, take}
 use lib.Seq.{take_all, get_or-set_same, get_or-set_other}
 use mir.Syntax.{w8}
 use mir.Val.{to_z, of_z}
-use Rattle.coxeter.specs.Kinds.{pick, kind_of, lanes, least, up}
+use Rattle.coxeter.specs.declared.Kind.{Kind}
+use Rattle.coxeter.specs.declared.Kind.TheVariants.{A, B, D}
+use Rattle.coxeter.specs.Kinds.{pick, lanes, least, up}
 use Rattle.coxeter.specs.Windows.{from, negate_first}
 use Rattle.coxeter.specs.Length.{greatest_length}
-use Rattle.coxeter.specs.Checks.{odd, too_short, rank_refusal, window_refusal, RankOf}
-use Rattle.coxeter.specs.NormalForm.{down, normal_form}
-use Rattle.coxeter.specs.Calls.{front, written, writes, normal_form_of_window}
-use Rattle.coxeter.proofs.KindLaws.{kind_of-one, kind_of-two, kind_of_three, lanes_le_add_one}
+use Rattle.coxeter.specs.Checks.{odd, too_short}
+use Rattle.coxeter.specs.NormalForm.{normal_form}
+use Rattle.coxeter.specs.Calls.{front, written, writes}
+use Rattle.coxeter.proofs.Groups.{InRange, group_lanes_le}
 use Rattle.coxeter.proofs.Lists.{written_next}
-use Rattle.coxeter.proofs.Acceptance.{rank_within}
 use Rattle.coxeter.proofs.FrontLaws.{length-take-front}
 use Rattle.refusals.proofs.Bytes.{cast_back, minus_cast_back}
 use Rattle.distribution.specs.Longest.{all_negative, longest}
-use Rattle.distribution.proofs.Longest.{length-all_negative, longest_is}
+use Rattle.distribution.proofs.Longest.{length-all_negative}
 use Rattle.distribution.proofs.LongestEntries.{falling_at, all_negative-at}
 use Rattle.distribution.proofs.Tables.{length-longest, length-longest_form}
 
@@ -77,81 +78,65 @@ odd_of_other n f = odd_of_other_by_cases (odd n) (odd_mod n)
 
 -- ---- the longest window, entry by entry, by cases as code has them
 
-pub lanes_fit : (k n m : ℕ) → n ≤ 64 → m ≡ lanes (kind_of k) n → m ≤ 127
-lanes_fit k n m h e = omega (arith, lanes_le_add_one (kind_of k) n)
-
-module _ (k n : ℕ) {m : ℕ} (i : ℕ) (e : m ≡ lanes (kind_of k) n) (o : i < m) where
+module _ (k : Kind) (n i : ℕ) (h : InRange k n) (o : i < lanes k n) where
   abbrev IsEntry : ℤ → Type 0
-  IsEntry z = z ≡ get_or (longest (kind_of k) n) i (pos 0)
+  IsEntry z = z ≡ get_or (longest k n) i (pos 0)
 
-  pub entry-A : k ≡ 1 → m ≤ 127 → IsEntry (to_z w8 (m - i))
+  small : lanes k n ≤ 64
+  small = group_lanes_le k n h
+
+  -- m is the number of lanes
+  pub entry-A : (m : ℕ) → m ≡ lanes k n → k ≡ A → IsEntry (to_z w8 (m - i))
   unfolding longest
-  entry-A a b =
-      let q = kind_of-one k a in
-      rw q (cast_back (m - i) (omega arith) ∙ sym (falling_at m i o) ∙ ap (λ (x : ℕ). get_or (map pos (down x x)) i (pos 0)) (rw q at e))
+  entry-A m e q = rw (e, q) (rw q at (cast_back (lanes k n - i) (omega (arith, small)) ∙ sym (falling_at (lanes k n) i o)))
 
-  negative_is : m ≤ 127 → to_z w8 (of_z w8 (pos 0 -ℤ to_z w8 (i + 1))) ≡ get_or (all_negative m) i (pos 0)
-  negative_is b = minus_cast_back (i + 1) (omega arith) ∙ ap (λ (x : ℕ). neg_ℤ (pos x)) (add-one i) ∙ sym (all_negative-at m i o)
+  negative_is : to_z w8 (of_z w8 (pos 0 -ℤ to_z w8 (i + 1))) ≡ get_or (all_negative (lanes k n)) i (pos 0)
+  negative_is = minus_cast_back (i + 1) (omega (arith, small)) ∙ ap (λ (x : ℕ). neg_ℤ (pos x)) (add-one i) ∙ sym (all_negative-at (lanes k n) i o)
 
-  pub entry-B : k ≡ 2 → m ≤ 127 → IsEntry (to_z w8 (of_z w8 (pos 0 -ℤ to_z w8 (i + 1))))
+  pub entry-B : k ≡ B → IsEntry (to_z w8 (of_z w8 (pos 0 -ℤ to_z w8 (i + 1))))
   unfolding longest
-  entry-B a b = let q = kind_of-two k a in rw q (negative_is b ∙ ap (λ (x : ℕ). get_or (all_negative x) i (pos 0)) (rw q at e))
+  entry-B q = rw q (rw q at negative_is)
 
-  module _ (f : k ≡ 1 → ⊥) (g : k ≡ 2 → ⊥) where
-    rank_lanes : m ≡ n
-    rank_lanes = rw (kind_of_three k f g) at e
+  module _ (q : k ≡ D) where
+    below : i < n
+    below = rw q at o
 
-    negative_rank : m ≤ 127 → to_z w8 (of_z w8 (pos 0 -ℤ to_z w8 (i + 1))) ≡ get_or (all_negative n) i (pos 0)
-    negative_rank b = negative_is b ∙ ap (λ (x : ℕ). get_or (all_negative x) i (pos 0)) rank_lanes
-
-    pub entry_even : n % 2 ≡ 0 → m ≤ 127 → IsEntry (to_z w8 (of_z w8 (pos 0 -ℤ to_z w8 (i + 1))))
+    pub entry_even : n % 2 ≡ 0 → IsEntry (to_z w8 (of_z w8 (pos 0 -ℤ to_z w8 (i + 1))))
     unfolding longest
-    entry_even t b = rw (kind_of_three k f g, even_of_zero n t) (negative_rank b)
+    entry_even t = rw (q, even_of_zero n t) (rw q at negative_is)
 
-    pub entry_last : (n % 2 ≡ 0 → ⊥) → i + 1 ≡ n → m ≤ 127 → IsEntry (to_z w8 (i + 1))
+    pub entry_last : (n % 2 ≡ 0 → ⊥) → i + 1 ≡ n → IsEntry (to_z w8 (i + 1))
     unfolding longest
-    entry_last t l b =
+    entry_last t l =
         let p : n - 1 ≡ i = omega arith in
         let inside : i < length (all_negative (i + 1)) = omega (arith, length-all_negative (i + 1)) in
-        rw (kind_of_three k f g, odd_of_other n t, last_positive n (omega arith), p, ← l)
-        (cast_back (i + 1) (omega arith) ∙ sym (get_or-set_same (all_negative (i + 1)) i (pos (i + 1)) (pos 0) inside))
+        rw (q, odd_of_other n t, last_positive n (omega arith), p, ← l)
+        (cast_back (i + 1) (omega (arith, small)) ∙ sym (get_or-set_same (all_negative (i + 1)) i (pos (i + 1)) (pos 0) inside))
 
-    pub entry-odd : (n % 2 ≡ 0 → ⊥) → (i + 1 ≡ n → ⊥) → m ≤ 127 → IsEntry (to_z w8 (of_z w8 (pos 0 -ℤ to_z w8 (i + 1))))
+    pub entry-odd : (n % 2 ≡ 0 → ⊥) → (i + 1 ≡ n → ⊥) → IsEntry (to_z w8 (of_z w8 (pos 0 -ℤ to_z w8 (i + 1))))
     unfolding longest
-    entry-odd t l b =
-        rw (kind_of_three k f g, odd_of_other n t, last_positive n (omega (arith, rank_lanes)))
-        (negative_rank b ∙ sym (get_or-set_other (all_negative n) (n - 1) i (pos n) (pos 0) (λ q. l (omega (arith, rank_lanes)))))
+    entry-odd t l =
+        rw (q, odd_of_other n t, last_positive n (omega (arith, below)))
+        (rw q at negative_is ∙ sym (get_or-set_other (all_negative n) (n - 1) i (pos n) (pos 0) (λ z. l (omega (arith, below)))))
 
 -- the next entry is written, and all are
-pub longest_next : (k n i : ℕ) {z : ℤ} (w : List ℤ) → least (kind_of k) ≤ n → i < length w → length w ≡ lanes (kind_of k) n
-    → z ≡ get_or (longest (kind_of k) n) i (pos 0) → take i w ≡ take i (longest (kind_of k) n)
-    → take (i + 1) (set w i z) ≡ take (i + 1) (longest (kind_of k) n)
-longest_next k n i {z} w r o s e t = written_next i z (pos 0) (longest (kind_of k) n) w (omega (arith, length-longest (kind_of k) n r)) o e t
+pub longest_next : (k : Kind) (n i : ℕ) {z : ℤ} (w : List ℤ) → least k ≤ n → i < length w → length w ≡ lanes k n → z ≡ get_or (longest k n) i (pos 0)
+    → take i w ≡ take i (longest k n) → take (i + 1) (set w i z) ≡ take (i + 1) (longest k n)
+longest_next k n i {z} w r o s e t = written_next i z (pos 0) (longest k n) w (omega (arith, length-longest k n r)) o e t
 
-pub longest_all : (k n i : ℕ) (w : List ℤ) → least (kind_of k) ≤ n → length w ≤ i → length w ≡ lanes (kind_of k) n
-    → take i w ≡ take i (longest (kind_of k) n) → w ≡ longest (kind_of k) n
-longest_all k n i w r h s t = sym (take_all i w h) ∙ t ∙ take_all i (longest (kind_of k) n) (omega (arith, length-longest (kind_of k) n r))
+pub longest_all : (k : Kind) (n i : ℕ) (w : List ℤ) → least k ≤ n → length w ≤ i → length w ≡ lanes k n → take i w ≡ take i (longest k n) → w ≡ longest k n
+longest_all k n i w r h s t = sym (take_all i w h) ∙ t ∙ take_all i (longest k n) (omega (arith, length-longest k n r))
 
 -- ---- the normal form
 
-pub form_written : (k n : ℕ) (v : List ℤ) (out : List ℕ) → RankOf k n → v ≡ longest (kind_of k) n → greatest_length (kind_of k) n ≤ length out
-    → (normal_form_of_window k n v out).bytes ≡ front (normal_form (kind_of k) n (longest (kind_of k) n)) out
-unfolding normal_form_of_window writes written too_short
-form_written k n v out h e l =
-    let r = (rank_within k n h).0 in
-    let form = length-longest_form (kind_of k) n r in
-    rw (
-      e,
-      eq-eqb (rank_refusal k n) 0 h,
-      eq-eqb (window_refusal (kind_of k) n (longest (kind_of k) n)) 0 (longest_is (kind_of k) n r).passes,
-      le-ltb (length out) (length (normal_form (kind_of k) n (longest (kind_of k) n))) (omega arith),
-    )
+-- the front of what the longest window was written to is that window, which passes
+pub longest_front : (k : Kind) (n : ℕ) (entries : List ℤ) {v : List ℤ} {m : ℕ} → InRange k n → m ≡ lanes k n → m ≤ length entries
+    → v ≡ front (longest k n) entries → (length v ≡ length entries) × (take m v ≡ longest k n)
+longest_front k n entries {v} {m} h c g e = length-take-front m (longest k n) entries v (length-longest k n h.0 ∙ sym c) g e
 
--- what writing it asks, where v is what the longest window of m entries was written to and s the length of its own
--- output
-pub form_asks : (k n : ℕ) {m : ℕ} (entries : List ℤ) {v : List ℤ} (s : ℕ) → RankOf k n → m ≡ lanes (kind_of k) n → m ≤ length entries
-    → v ≡ front (longest (kind_of k) n) entries → greatest_length (kind_of k) n ≤ s
-    → RankOf k n × ((m ≤ length v) × ((take m v ≡ longest (kind_of k) n) × (greatest_length (kind_of k) n ≤ s)))
-form_asks k n {m} entries {v} s h c g e l =
-    let f = length-take-front m (longest (kind_of k) n) entries v (length-longest (kind_of k) n (rank_within k n h).0 ∙ sym c) g e in
-    (h, (omega (arith, f.0), (f.1, l)))
+pub form_written : (k : Kind) (n : ℕ) {v : List ℤ} (out : List ℕ) → InRange k n → v ≡ longest k n → greatest_length k n ≤ length out
+    → (writes 0 (normal_form k n v) out).bytes ≡ front (normal_form k n (longest k n)) out
+unfolding writes written too_short
+form_written k n out h e l =
+    let form = length-longest_form k n h.0 in
+    rw (e, le-ltb (length out) (length (normal_form k n (longest k n))) (omega arith))

@@ -4,56 +4,52 @@
 -- Sections: letters; the window between two windows and its normal form; the call.
 -- Assumes nothing.
 use mathlib.Core.Path.{◌≡◌, refl, sym, ap, ◌∙◌}
-use mathlib.Core.Bool.{Bool, true, false, not}
+use mathlib.Core.Bool.{Bool, true, false, not, ◌&&◌}
 use mathlib.Core.List.{List, [], ◌∷◌, ◌++◌}
-use Prim.Native.Nat.{ℕ, ◌+◌, ◌*◌, ◌≤◌, ◌<◌}
-use native.Mathlib.Nat.{mul-le-mul}
-use native.Mathlib.Decide.{ℕ_discrete}
+use Prim.Native.Nat.{ℕ, ◌*◌, ◌≤◌, ◌<◌}
 use native.Mathlib.Omega.{arith}
 use lib.IntN.{ℤ}
-use lib.ListN.{length, get_or, take, drop, drop_of_length-le}
-use lib.Seq.{take-length, length-take-le}
-use borrow.Author.Tests.{ne_eqb, le-ltb, not-true, not-false}
+use lib.ListN.{length, get_or, take, drop, replicate, length-replicate}
+use lib.Seq.{take-length}
+use borrow.Author.Tests.{ne_eqb, le-ltb}
+use Rattle.std.specs.List.{list_all}
+use Rattle.std.proofs.lemmas.Grind.{get_or_default_zero}
 use Rattle.coxeter.specs.answers.Answer.{Answer}
 use Rattle.coxeter.specs.answers.Answer as answer
+use Rattle.coxeter.specs.declared.Kind.{Kind}
 use Rattle.coxeter.specs.Kinds.{kind_of}
 use Rattle.coxeter.specs.Windows.{product, inverse}
-use Rattle.coxeter.specs.Checks.{check, ◌then◌, too_long, wrong_letter, rank_refusal, word_refusal, window_refusal, RankOf, WordOf}
+use Rattle.coxeter.specs.Checks.{check, ◌then◌, too_long, wrong_letter, rank_refusal, word_refusal, window_refusal, WordOf, WindowOf}
 use Rattle.coxeter.specs.NormalForm.{normal_form}
 use Rattle.coxeter.specs.Calls.{front, Yields, writes}
-use Rattle.coxeter.proofs.Acceptance.{rank_accepted, letters_accepted, length_accepted, windows_accepted}
+use Rattle.coxeter.proofs.Acceptance.{letters_accepted, length_accepted}
+use Rattle.coxeter.proofs.Groups.{InRange, by_number, rank_le}
 use Rattle.coxeter.proofs.Levels.{Accepted, accepted_of_refusal, refusal_of_accepted}
-use Rattle.coxeter.proofs.Lists.{drop_next}
-use Rattle.coxeter.proofs.LetterLaws.{letter_within_cons}
+use Rattle.coxeter.proofs.LetterLaws.{letter_at, letter_within_cons}
 use Rattle.coxeter.proofs.Theorems.{normal_form-fits}
 use Rattle.coxeter.proofs.Refusals.{then_none, then_some, then_assoc}
 use Rattle.coxeter.proofs.Outcomes.{writes-refused}
-use Rattle.coxeter.proofs.FrontLaws.{length-take-front, front_parts}
-use Rattle.coxeter.proofs.Writes.{length_or_refused}
+use Rattle.coxeter.proofs.FrontLaws.{front_parts}
 use Rattle.shortest_words.specs.Allowed.{over, allows, set_refusal}
 use Rattle.shortest_words.specs.Between.{between, reachable}
 use Rattle.shortest_words.specs.BetweenCalls.{unreachable, between_refusal, between_windows}
 use Rattle.shortest_words.proofs.Between.{between_accepted}
 use Rattle.shortest_words.proofs.BetweenCalls.{rank_of_set}
-use Rattle.descents.proofs.Answers.{told_length, told_refused}
+use Rattle.descents.proofs.Answers.{told_length, written_front, never_refused}
 use Rattle.window.proofs.Squares.{form_le_square}
 
 -- ---- letters
 
-module _ (allowed : ℕ → Bool) (u : List ℕ) (i : ℕ) (s : over allowed u ≡ over allowed (drop i u)) where
-  -- t is whether the letter at i is allowed
-  module _ (t : Bool) (h : i < length u) (e : t ≡ allowed (get_or u i 0)) where
-    pub over_stop : not t ≡ true → false ≡ over allowed u
-    unfolding over
-    over_stop f = sym (s ∙ rw (drop_next u i 0 h, ← e, not-true t f))
+-- each letter is allowed
+pub list_all-over : (allowed : ℕ → Bool) (u : List ℕ) → list_all allowed u ≡ over allowed u
+unfolding over
+list_all-over allowed [] = refl
+list_all-over allowed (s ∷ u) = ap (λ (b : Bool). allowed s && b) (list_all-over allowed u)
 
-    pub over_next : not t ≡ false → over allowed u ≡ over allowed (drop (i + 1) u)
-    unfolding over
-    over_next f = s ∙ rw (drop_next u i 0 h, ← e, not-false t f)
-
-  pub over_end : length u ≤ i → true ≡ over allowed u
-  unfolding over
-  over_end h = sym (s ∙ rw (drop_of_length-le u h))
+-- a letter that is met in an accepted word
+pub letter_met : (n : ℕ) (u : List ℕ) (k x : ℕ) → WordOf n u → k < length u → x ≡ get_or u k x → (1 ≤ x) × (x ≤ n)
+letter_met n u k x w h e =
+    let is : x ≡ get_or u k 0 = e ∙ get_or_default_zero u k x h in rw is (letter_at n u k h (letters_accepted n u w))
 
 -- a word of a smaller rank is one of a greater one
 letters_le : (n m : ℕ) (u : List ℕ) → n ≤ m → wrong_letter n u ≡ false → wrong_letter m u ≡ false
@@ -80,12 +76,41 @@ copied u out after e = e ∙ front_parts u out (length u) (take (length u) u) re
 
 -- ---- the window between two windows and its normal form
 
--- what there is room for up to rank 8, 16 and 64
-pub square_le_64 : (n : ℕ) → n ≤ 8 → n * n ≤ 64
-square_le_64 n h = mul-le-mul {n₁ = n} {m₁ = n} {n₂ = 8} {m₂ = 8} h h
+module _ (k : Kind) (n : ℕ) (v w : List ℤ) (h : InRange k n) (a : WindowOf k n v) (b : WindowOf k n w) where
+  abbrev form : List ℕ
+  form = normal_form k n (product (inverse v) w)
 
-pub square_le_256 : (n : ℕ) → n ≤ 16 → n * n ≤ 256
-square_le_256 n h = mul-le-mul {n₁ = n} {m₁ = n} {n₂ = 16} {m₂ = 16} h h
+  middle : Accepted k n (product (inverse v) w)
+  middle = between_accepted k n v w (accepted_of_refusal k n v a) (accepted_of_refusal k n w b)
+
+  fits : WordOf n form
+  fits =
+      by_number (λ k n. (x : List ℤ) → WindowOf k n x → WordOf n (normal_form k n x)) (λ j n r x p. normal_form-fits j n x r p) k n h
+      (product (inverse v) w) (refusal_of_accepted k n _ middle)
+
+  -- the work array has `size` zeros, room for every normal form, and `after` is what the call on the two windows left there
+  module _ (size : ℕ) (room : n * n ≤ size) where
+    zeros : length {A = ℕ} (replicate size 0) ≡ size
+    zeros = let z : ℕ = 0 in length-replicate size z
+
+    pub form_never : {after : List ℕ} (s : ℕ) → Yields (writes 0 form (replicate size 0)) (answer.Refused s) after → ⊥
+    form_never s y = never_refused form (replicate size 0) s y (omega (arith, form_le_square k n _ middle, room, zeros))
+
+    module _ {after : List ℕ} (m : ℕ) (y : Yields (writes 0 form (replicate size 0)) (answer.Length m) after) where
+      held : take m after ≡ form
+      held = (written_front form (replicate size 0) m y).part
+
+      pub form_room : m ≤ size
+      form_room = omega (arith, (told_length 0 form (replicate size 0) after (answer.Length m) refl y m refl).1, zeros)
+
+      pub form_word : WordOf 64 (take m after)
+      form_word = rw held (word_le n 64 form (rank_le k n h).1 fits)
+
+      pub answered : (set : ℕ) (out : List ℕ) (x : Answer) (end : List ℕ)
+          → Yields (writes (check 19 (not (over (allows set) (take m after)))) (take m after) out) x end
+          → Yields (writes (check 19 (unreachable k n set v w)) (between k n v w) out) x end
+      unfolding unreachable reachable between
+      answered set out x end d = rw held at d
 
 -- ---- the call
 
@@ -95,74 +120,24 @@ unfolding between_windows between_refusal
 refused_by_set k n set v w {out} {p} e f = writes-refused _ _ p _ out refl (e ∙ sym (then_some _ _ (λ z. f (e ∙ z)))) f
 
 -- checks 5, 6 and 16 refuse nothing
-module _ (k n set : ℕ) (v w : List ℤ) (z : set_refusal k n set ≡ 0) where
-  rank : RankOf k n
-  rank = rank_of_set k n set z
-
+module _ (k n set : ℕ) (v w : List ℤ) (z : 0 ≡ set_refusal k n set) where
   abbrev checks : ℕ
   checks = rank_refusal k n then window_refusal (kind_of k) n v then window_refusal (kind_of k) n w
-
-  abbrev form : List ℕ
-  form = normal_form (kind_of k) n (product (inverse v) w)
 
   -- the windows' checks, then 19
   rest : between_refusal k n set v w ≡ (checks then check 19 (unreachable (kind_of k) n set v w))
   unfolding between_refusal
   rest =
-      then_none _ _ z
+      then_none _ _ (sym z)
       ∙ sym (then_assoc (window_refusal (kind_of k) n v) (window_refusal (kind_of k) n w) _)
-      ∙ ap (λ (x : ℕ). x then check 19 (unreachable (kind_of k) n set v w)) (sym (then_none _ _ rank))
+      ∙ ap (λ (x : ℕ). x then check 19 (unreachable (kind_of k) n set v w)) (sym (then_none _ _ (rank_of_set k n set (sym z))))
 
-  middle : checks ≡ 0 → Accepted (kind_of k) n (product (inverse v) w)
-  middle c =
-      let p = windows_accepted k n v w checks refl c in
-      between_accepted (kind_of k) n v w (accepted_of_refusal (kind_of k) n v p.1.0) (accepted_of_refusal (kind_of k) n w p.1.1)
+  pub refused_by_windows : {out : List ℕ} {p : ℕ} → p ≡ checks → (p ≡ 0 → ⊥) → Yields (between_windows k n set v w out) (answer.Refused p) out
+  unfolding between_windows
+  refused_by_windows {out} {p} e f = writes-refused _ _ p _ out refl (e ∙ sym (rest ∙ then_some checks _ (λ q. f (e ∙ q)))) f
 
-  -- y is what the call on the two windows answered, with room in `before` for every normal form, and `after` what it
-  -- left there
-  module _ (before after : List ℕ) (y : Answer) (room : n * n ≤ length before)
-      (e : Yields (writes (rank_refusal k n then window_refusal (kind_of k) n v then window_refusal (kind_of k) n w)
-      (normal_form (kind_of k) n (product (inverse v) w)) before) y after) where
-    pub refused_by_windows : (s : ℕ) (out : List ℕ) → y ≡ answer.Refused s → Yields (between_windows k n set v w out) y out
-    unfolding between_windows
-    refused_by_windows s out q = elim (ℕ_discrete checks 0) [ yes c ↦ absurd (never c) | no f ↦ refused f ]
-      where
-        never : checks ≡ 0 → ⊥
-        never c = omega (arith, (told_refused checks form before after y c e s q).0, form_le_square (kind_of k) n (product (inverse v) w) (middle c), room)
-
-        refused : (checks ≡ 0 → ⊥) → Yields (between_windows k n set v w out) y out
-        refused f =
-            let d = writes-refused (writes checks form before) checks checks form before refl refl f in
-            let a : y ≡ answer.Refused checks = e.0 ∙ sym d.0 in
-            rw a (writes-refused _ _ checks _ out refl (sym (rest ∙ then_some checks _ f)) f)
-
-    module _ (m : ℕ) (q : y ≡ answer.Length m) where
-      passed : checks ≡ 0
-      passed = elim (ℕ_discrete checks 0) [ yes c ↦ c | no f ↦ absurd (never f) ]
-        where
-          never : (checks ≡ 0 → ⊥) → ⊥
-          never f =
-              let d = writes-refused (writes checks form before) checks checks form before refl refl f in
-              length_or_refused q (e.0 ∙ sym d.0)
-
-      held : (m ≡ length form) × (m ≤ length before) × (after ≡ front form before)
-      held = told_length checks form before after y passed e m q
-
-      stored : (length after ≡ length before) × (take m after ≡ form)
-      stored = length-take-front m form before after (sym held.0) held.1 held.2
-
-      pub form_room : m ≤ length after
-      form_room = omega (arith, held.1, stored.0)
-
-      pub form_length : m ≡ length (take m after)
-      form_length = sym (length-take-le m after form_room)
-
-      pub form_word : WordOf 64 (take m after)
-      form_word =
-          let fits = normal_form-fits k n _ rank (refusal_of_accepted (kind_of k) n _ (middle passed)) in
-          rw stored.1 (word_le n 64 form (rank_accepted k n rank).1 fits)
-
-      pub answered : (out : List ℕ) (x : Answer) (end : List ℕ)
-          → Yields (writes (check 19 (not (over (allows set) (take m after)))) (take m after) out) x end → Yields (between_windows k n set v w out) x end
-      unfolding between_windows unreachable reachable between
-      answered out x end d = rw (rest, passed) (rw stored.1 at d)
+  -- nor do those of the windows
+  pub led : (out : List ℕ) {x : Answer} {end : List ℕ} → 0 ≡ checks
+      → Yields (writes (check 19 (unreachable (kind_of k) n set v w)) (between (kind_of k) n v w) out) x end → Yields (between_windows k n set v w out) x end
+  unfolding between_windows
+  led out c d = rw (rest, sym c) d

@@ -1,19 +1,16 @@
 -- `fallback_places` goes by its checks in their order, and then by the verdict on the two words.
 -- Assumes nothing.
-use Rattle.coxeter.proofs.Acceptance.{words_accepted}
+use mathlib.Core.Path.{refl}
+use Rattle.coxeter.proofs.Groups.{number_positive}
 use Rattle.shortest_words.proofs.Verdicts.{fell_back_refused, fell_back_decided}
+use Rattle.descents.proofs.Answers.{fallback_refused}
 use Rattle.descents.proofs.fallback_places.Goals as goal
 
-pub returns-then-refusal-ne0 : goal.returns-then-refusal-ne0
-returns-then-refusal-ne0 c =
-    fell_back_refused _ _ _ _ _ c.ranked_words_refusal-refusal.ensures c.if-refusal-ne0.true
-
-pub decide_words-requires : goal.decide_words-requires
-decide_words-requires c =
-    let h = words_accepted _ _ _ _ _ c.ranked_words_refusal-refusal.ensures c.if-refusal-ne0.false in
-    record { rank_of = h.0; word_of = h.1.0; word_of_2 = h.1.1 }
+pub returns-in_err-present : goal.returns-in_err-present
+returns-in_err-present c =
+    rw (fallback_refused _ _ c.from_residual.ensures) (fell_back_refused _ _ _ _ _ c.in_err-present.ensures.refusal (number_positive _))
 
 pub returns : goal.returns
 returns c =
-    fell_back_decided _ _ _ _ _ c.ranked_words_refusal-refusal.ensures c.if-refusal-ne0.false
-    c.decide_words.ensures
+    let w = c.in_ok-present.ensures in
+    fell_back_decided _ _ _ _ _ w.refusal refl (rw (w.words.0.0, w.words.0.1, w.words.0.2, w.words.1.2) at c.decide_words.ensures)

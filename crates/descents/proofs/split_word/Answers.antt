@@ -1,15 +1,16 @@
 -- `split_word` refuses in the order of its checks, or splits the word.
 -- Assumes nothing.
-use Rattle.shortest_words.proofs.SplitOutcomes.{split_refused, split_accepted, split_passed}
+use mathlib.Core.Path.{refl}
+use Rattle.coxeter.proofs.Groups.{number_positive}
+use Rattle.shortest_words.proofs.SplitOutcomes as outcomes
+use Rattle.descents.proofs.Answers.{split_refused}
 use Rattle.descents.proofs.split_word.Goals as goal
 
-pub returns-then-refusal-ne0 : goal.returns-then-refusal-ne0
-returns-then-refusal-ne0 c = split_refused _ _ _ _ _ c.split_refusal-refusal.ensures _ _ c.if-refusal-ne0.true
-
-pub split_accepted-requires : goal.split_accepted-requires
-split_accepted-requires c =
-    split_accepted _ _ _ _ _ c.split_refusal-refusal.ensures c.if-refusal-ne0.false
+pub returns-in_err-word : goal.returns-in_err-word
+returns-in_err-word c =
+    rw (split_refused _ _ c.from_residual.ensures) (outcomes.split_refused _ _ _ _ _ c.in_err-word.ensures.refusal _ _ (number_positive _))
 
 pub returns : goal.returns
 returns c =
-    split_passed _ _ _ _ _ c.split_refusal-refusal.ensures _ _ c.if-refusal-ne0.false _ _ _ c.split_accepted.ensures
+    let u = c.in_ok-word.ensures in
+    outcomes.split_passed _ _ _ _ _ u.refusal _ _ refl _ _ _ (rw (u.word.0, u.word.1, u.word.2) at c.split_accepted.ensures)

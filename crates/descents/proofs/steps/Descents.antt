@@ -13,15 +13,16 @@ use lib.ListN.{length, get_or, set}
 use lib.Signed.{mag, lt_z}
 use mir.Syntax.{w8}
 use mir.Val.{SFits}
-use Rattle.coxeter.specs.Kinds.{pick, kind_of, lanes}
+use Rattle.coxeter.specs.declared.Kind.{Kind}
+use Rattle.coxeter.specs.declared.Kind.TheVariants.{B}
+use Rattle.coxeter.specs.Kinds.{pick, lanes}
 use Rattle.coxeter.specs.Windows.{from, swap, negate_first, swap_negate, act}
 use Rattle.coxeter.specs.Length.{later, negative}
-use Rattle.coxeter.proofs.KindLaws.{kind_of-two}
 use Rattle.coxeter.proofs.Levels.{accepted_of_refusal}
 use Rattle.coxeter.proofs.Descents.{crossed, crossed-swap, crossed-B_last, crossed-D_last}
 use Rattle.refusals.proofs.Bytes.{held, byte_back, element_back, minus_is_negate, minus_fits, minus_back}
-use Rattle.window.proofs.ByteSteps.{ActRequires, Negated, set_eq_negate_first, set_eq_swap_negate, length_of_refusal}
-use Rattle.window.proofs.ByteSteps.{swap_eq_act, negate_first_eq_act, swap_negate_eq_act, four_le_of_last, last_step, last_kind}
+use Rattle.window.proofs.ByteSteps.{StepOf, Negated, set_eq_negate_first, set_eq_swap_negate, length_of_refusal}
+use Rattle.window.proofs.ByteSteps.{swap_is_act, negate_first_is_act, swap_negate_is_act, four_le, last_step, last_is_D}
 use Rattle.shortest_words.specs.Descents.{is_descent}
 use Rattle.shortest_words.proofs.Descents.{descent_crossed}
 
@@ -86,39 +87,39 @@ set_eq_swapped p w h f g d e =
 -- ---- one step
 
 -- step s was tested, and taken where the test holds
-abbrev pub TakenDescent : ℕ → ℕ → ℕ → List ℤ → Bool → List ℤ → Type 0
-TakenDescent k n s w r v = (r ≡ is_descent (kind_of k) n s w) × (v ≡ pick r (act (kind_of k) n s w) w)
+abbrev pub TakenDescent : Kind → ℕ → ℕ → List ℤ → Bool → List ℤ → Type 0
+TakenDescent k n s w r v = (r ≡ is_descent k n s w) × (v ≡ pick r (act k n s w) w)
 
-module _ (k n s : ℕ) (w v : List ℤ) (r : Bool) (h : ActRequires k n s w) where
+module _ (k : Kind) (n s : ℕ) (w v : List ℤ) (r : Bool) (h : StepOf k n s w) where
   -- from the test of the entries and what taking the step does
-  taken_descent : (x : List ℤ) → r ≡ crossed (kind_of k) n s w → x ≡ act (kind_of k) n s w → v ≡ pick r x w → TakenDescent k n s w r v
+  taken_descent : (x : List ℤ) → r ≡ crossed k n s w → x ≡ act k n s w → v ≡ pick r x w → TakenDescent k n s w r v
   taken_descent x t e q =
-      let a = accepted_of_refusal (kind_of k) n w h.1.1 in
-      (t ∙ sym (descent_crossed (kind_of k) n s w h.1.0.0 h.0.0 h.0.1 a), q ∙ ap (λ (y : List ℤ). pick r y w) e)
+      let a = accepted_of_refusal k n w h.1.1 in
+      (t ∙ sym (descent_crossed k n s w h.1.0.0 h.0.0 h.0.1 a), q ∙ ap (λ (y : List ℤ). pick r y w) e)
 
   pub taken_pair : s < length w → r ≡ later (get_or w (s - 1) (pos 0)) (get_or w (s - 1 + 1) (pos 0)) → v ≡ pick r (from (s - 1) swap w) w
       → TakenDescent k n s w r v
   taken_pair l t q =
       let e : suc (s - 1) ≡ s = omega (arith, h.0.0) in
       let f : s - 1 + 1 ≡ s = omega (arith, h.0.0) in
-      let inside : suc (s - 1) < lanes (kind_of k) n = rw (e, ← length_of_refusal (kind_of k) n w h.1.1) l in
-      let test = rw e at (crossed-swap (kind_of k) n (s - 1) w inside) in
-      taken_descent (from (s - 1) swap w) (t ∙ rw f (sym test)) (swap_eq_act k n s w h l) q
+      let inside : suc (s - 1) < lanes k n = rw (e, ← length_of_refusal k n w h.1.1) l in
+      let test = rw e at (crossed-swap k n (s - 1) w inside) in
+      taken_descent (from (s - 1) swap w) (t ∙ rw f (sym test)) (swap_is_act k n s w h l) q
 
   module _ (l : length w ≤ s) where
     last : (s ≡ n) × (length w ≡ n)
-    last = last_step (kind_of k) n s w h.0.1 l h.1.1
+    last = last_step k n s w h.0.1 l h.1.1
 
-    pub taken_sign : k ≡ 2 → r ≡ negative (get_or w (n - 1) (pos 0)) → v ≡ pick r (from (n - 1) negate_first w) w → TakenDescent k n s w r v
+    pub taken_sign : k ≡ B → r ≡ negative (get_or w (n - 1) (pos 0)) → v ≡ pick r (from (n - 1) negate_first w) w → TakenDescent k n s w r v
     taken_sign b t q =
         let e : suc (n - 1) ≡ n = omega (arith, last, h.0.0) in
         let test = rw e at (crossed-B_last (n - 1) w) in
-        taken_descent (from (n - 1) negate_first w) (t ∙ rw (kind_of-two k b, last.0) (sym test)) (negate_first_eq_act k n s w h l b) q
+        taken_descent (from (n - 1) negate_first w) (t ∙ rw (b, last.0) (sym test)) (negate_first_is_act k n s w h l b) q
 
-    pub taken_signs : (k ≡ 2 → ⊥) → r ≡ later (get_or w (n - 2) (pos 0)) (neg_ℤ (get_or w (n - 2 + 1) (pos 0)))
+    pub taken_signs : (k ≡ B → ⊥) → r ≡ later (get_or w (n - 2) (pos 0)) (neg_ℤ (get_or w (n - 2 + 1) (pos 0)))
         → v ≡ pick r (from (n - 2) swap_negate w) w → TakenDescent k n s w r v
     taken_signs b t q =
-        let e : suc (suc (n - 2)) ≡ n = omega (arith, four_le_of_last k n s w h l b) in
+        let e : suc (suc (n - 2)) ≡ n = omega (arith, four_le k n s w h l b) in
         let f : n - 2 + 1 ≡ suc (n - 2) = omega arith in
         let test = rw e at (crossed-D_last (n - 2) w) in
-        taken_descent (from (n - 2) swap_negate w) (t ∙ rw (f, last_kind k n s w h l b, last.0) (sym test)) (swap_negate_eq_act k n s w h l b) q
+        taken_descent (from (n - 2) swap_negate w) (t ∙ rw (f, last_is_D k n s w h l b, last.0) (sym test)) (swap_negate_is_act k n s w h l b) q

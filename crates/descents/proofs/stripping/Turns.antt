@@ -3,18 +3,17 @@
 --
 -- Sections: how far back; one step; the loop.
 -- Assumes nothing.
-use mathlib.Core.Path.{◌≡◌, refl, sym, ap, ◌∙◌}
+use mathlib.Core.Path.{◌≡◌, sym, ap, ◌∙◌}
 use mathlib.Core.Logic.{◌⊎◌, ⊎_elim}
-use mathlib.Core.Bool.{Bool, true, false, ◌&&◌, and-eq-true_iff}
+use mathlib.Core.Bool.{Bool, true, ◌&&◌, and-eq-true_iff}
 use mathlib.Core.List.{List}
 use Prim.Native.Nat.{ℕ, ◌+◌, ◌-◌, ◌*◌, ◌≤◌, ◌<◌}
-use native.Mathlib.Decide.{ℕ_discrete}
 use native.Mathlib.Nat.{add-mul, one-mul}
 use native.Mathlib.Omega.{arith}
 use lib.IntN.{ℤ}
 use Rattle.coxeter.specs.declared.Kind.{Kind}
 use Rattle.coxeter.specs.declared.Kind.TheVariants.{A, B, D}
-use Rattle.coxeter.specs.Kinds.{kind_of, least, pick}
+use Rattle.coxeter.specs.Kinds.{least, pick}
 use Rattle.coxeter.specs.Windows.{act}
 use Rattle.coxeter.specs.Length.{window_length}
 use Rattle.coxeter.specs.Checks.{WindowOf}
@@ -36,9 +35,6 @@ Back k n s r = (1 ≤ r) × (r ≤ s) × (2 ≤ r → Far k n (r - 1) s)
 back_one : (k : Kind) (n s : ℕ) → 2 ≤ s → (k ≡ D → s ≡ n → ⊥) → Back k n s (s - 1)
 back_one k n s o f = (omega arith, omega arith, λ t. (omega arith, λ d e. absurd (f d e)))
 
-pub back_below : (k n s : ℕ) → 2 ≤ s → s < n → Back (kind_of k) n s (s - 1)
-back_below k n s o l = back_one (kind_of k) n s o (λ d e. omega arith)
-
 pub back_identity : (k : Kind) (n s : ℕ) → 2 ≤ s → (k ≡ A) ⊎ (k ≡ B) → Back k n s (s - 1)
 back_identity k n s o = ⊎_elim (λ e. rw e (back_one A n s o (λ d f. A≢D d))) (λ e. rw e (back_one B n s o (λ d f. B≢D d)))
 
@@ -53,14 +49,6 @@ back_fork k n s f h l m =
 abbrev pub Taken : Kind → ℕ → ℕ → ℕ → List ℤ → Bool → List ℤ → Type 0
 Taken k n set s w r v = (r ≡ (allows set s && is_descent k n s w)) × (v ≡ pick r (act k n s w) w)
 
--- the test of the set comes first
-pub taken_allowed : (k : Kind) (n set s : ℕ) (w : List ℤ) {r : Bool} (v : List ℤ) {b : Bool} → b ≡ allows set s → b ≡ true
-    → (r ≡ is_descent k n s w) × (v ≡ pick r (act k n s w) w) → Taken k n set s w r v
-taken_allowed k n set s w v e t h = (rw (← e, t) h.0, h.1)
-
-pub taken_not : (k : Kind) (n set s : ℕ) {w : List ℤ} {b : Bool} → b ≡ allows set s → b ≡ false → Taken k n set s w false w
-taken_not k n set s e f = (rw (← e, f) refl, refl)
-
 -- ---- the loop
 
 one_more : (a b : ℕ) → (a + 1) * b ≡ a * b + b
@@ -74,10 +62,6 @@ pub record Turning (set : ℕ) (k : Kind) (n : ℕ) (w₀ w : List ℤ) (s : ℕ
   pub ended : NoDescent (allows set) k n (s - 1) 1 w
   pub reached : (y : List ℤ) → Strips (allows set) k n w y → Strips (allows set) k n w₀ y
 
-pub turning_start : {set : ℕ} {k : Kind} {n : ℕ} {w : List ℤ} → WindowOf k n w → Turning set k n w w 1
-turning_start p =
-    record { low = omega arith; high = omega arith; passes = p; ended = λ j g l a. absurd (omega arith); reached = λ y r. r }
-
 pub turning_end : {set : ℕ} {k : Kind} {n : ℕ} {w₀ w : List ℤ} {s : ℕ} → Turning set k n w₀ w s → n < s → Strips (allows set) k n w₀ w
 turning_end {set} {k} {n} {w} t l =
     t.reached w (strips_nothing (allows set) k n w (λ j g m a. t.ended j g (omega arith) a))
@@ -86,21 +70,6 @@ module _ {set : ℕ} {k : Kind} {n : ℕ} {w₀ w : List ℤ} {s : ℕ} (t : Tur
     (g : Taken k n set s w r v) where
   accepted : Accepted k n w
   accepted = accepted_of_refusal k n w t.passes
-
-  pub turning_passed : r ≡ false → Turning set k n w₀ v (s + 1)
-  turning_passed e = rw same (record { low = omega arith; high = omega arith; passes = t.passes; ended = still; reached = t.reached })
-    where
-      same : v ≡ w
-      same = g.1 ∙ ap (λ (b : Bool). pick b (act k n s w) w) e
-
-      not_taken : allows set s ≡ true → is_descent k n s w ≡ false
-      not_taken a = let f = sym g.0 ∙ e in rw a at f
-
-      still : NoDescent (allows set) k n (s + 1 - 1) 1 w
-      still j i m a = elim (ℕ_discrete j s) [ yes q ↦ rw q (not_taken (rw q at a)) | no f ↦ t.ended j i (omega (arith, t.low)) a ]
-
-  pub passed_less : r ≡ false → window_length k v * (n + 1) + (n + 1 - (s + 1)) < window_length k w * (n + 1) + (n + 1 - s)
-  passed_less e = let same : v ≡ w = g.1 ∙ ap (λ (b : Bool). pick b (act k n s w) w) e in rw same (omega arith)
 
   module _ (e : r ≡ true) where
     both : (allows set s ≡ true) × (is_descent k n s w ≡ true)

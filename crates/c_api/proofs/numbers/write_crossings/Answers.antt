@@ -1,45 +1,21 @@
--- `numbers::write_crossings` goes by the cases of the counts, and stores the three one after the other.
+-- `numbers::write_crossings` hands a refusal on, or writes the three counts to the front of the list if it has room.
 -- Assumes nothing.
-use mathlib.Core.Path.{◌∙◌}
-use Prim.Native.Nat.{◌+◌, ◌≤◌}
-use native.Mathlib.Omega.{arith}
-use lib.ListN.{length-set}
-use Rattle.c_api.specs.Calls.{refused}
-use Rattle.c_api.proofs.Lengths.{i64_back}
+use Rattle.c_api.specs.Calls.{number_of}
+use Rattle.c_api.proofs.Lengths.{handed_on, no_room}
 use Rattle.c_api.proofs.Outcomes.{crossings-refused, crossings-short, crossings_stored}
 use Rattle.c_api.proofs.numbers.write_crossings.Goals as goal
 
-pub returns-then-counts-lt3 : goal.returns-then-counts-lt3
-unfolding refused
-returns-then-counts-lt3 c = crossings-short _ _ _ _ _ c.in-Crossings.is c.if-counts-lt3.true
+pub returns-in_err-counts-clause-numbers : goal.returns-in_err-counts-clause-numbers
+returns-in_err-counts-clause-numbers c = rw c.in_err-counts.was (crossings-refused _ _ (handed_on _ _ c.from_residual.ensures))
 
-pub bounds-counts-1 : goal.bounds-counts-1
-bounds-counts-1 c = simp length-set (omega arith)
+pub returns-in_err-ok_or-clause-numbers : goal.returns-in_err-ok_or-clause-numbers
+returns-in_err-ok_or-clause-numbers c =
+    let none = c.in_err-ok_or.ensures.ok_part in
+    rw c.in_ok-counts.was (crossings-short _ _ _ _ (rw none at c.first_chunk_mut.ensures.cases)
+    (no_room _ _ c.from_residual-in_err-ok_or.ensures c.in_err-ok_or.was (rw none at c.ok_or.ensures.value)))
 
-pub overflow_add-inversions : goal.overflow_add-inversions
-overflow_add-inversions c =
-    -- the total is small
-    let small : c.in-Crossings.inversions + c.in-Crossings.negative_sum_pairs + c.in-Crossings.negatives ≤ 65535 =
-    c.requires _ _ _ c.in-Crossings.is in
-    omega (arith, small)
-
-pub overflow_add-inversions-in-Crossings : goal.overflow_add-inversions-in-Crossings
-overflow_add-inversions-in-Crossings c =
-    -- the total is small
-    let small : c.in-Crossings.inversions + c.in-Crossings.negative_sum_pairs + c.in-Crossings.negatives ≤ 65535 =
-    c.requires _ _ _ c.in-Crossings.is in
-    omega (arith, small)
-
-pub size-requires : goal.size-requires
-size-requires c =
-    -- the total is small
-    let small : c.in-Crossings.inversions + c.in-Crossings.negative_sum_pairs + c.in-Crossings.negatives ≤ 65535 =
-    c.requires _ _ _ c.in-Crossings.is in
-    small
-
-pub returns-else-counts-lt3 : goal.returns-else-counts-lt3
-returns-else-counts-lt3 c =
-    crossings_stored _ _ _ _ _ c.in-Crossings.is c.if-counts-lt3.false (i64_back _ c.size.type_inv ∙ c.size.ensures)
-
-pub returns-in-Refused : goal.returns-in-Refused
-returns-in-Refused c = crossings-refused _ _ _ _ c.in-Refused.is (i64_back _ c.refusal_number.type_inv ∙ c.refusal_number.ensures)
+pub returns-clause-numbers : goal.returns-clause-numbers
+unfolding number_of
+returns-clause-numbers c =
+    let chunk = rw c.in_ok-ok_or.ensures.ok_part at c.first_chunk_mut.ensures.cases in
+    rw c.in_ok-counts.was (crossings_stored _ _ _ _ chunk.enough)

@@ -1,19 +1,14 @@
--- `presets::check_book` goes by the cases of the answer; a book of at most 65,535 bytes has fewer presets.
+-- `presets::check_book` answers the number of the call below it, which fits: a book of at most 65,535 bytes has fewer
+-- presets.
 -- Assumes nothing.
-use mathlib.Core.Path.{◌∙◌}
+use mathlib.Core.Path.{ap, ◌∙◌}
 use Rattle.c_api.specs.Calls.{opened_number}
-use Rattle.c_api.proofs.Lengths.{i64_back, presets_small}
+use Rattle.c_api.proofs.Lengths.{i64_back, presets-fit, opened_numbered}
 use Rattle.c_api.proofs.presets.check_book.Goals as goal
 
-pub size-requires : goal.size-requires
-size-requires c = presets_small _ _ _ _ c.check_book.ensures c.in-Presets.is
+pub number_of-requires : goal.number_of-requires
+number_of-requires c = presets-fit _ _ _ c.check_book.ensures
 
-pub returns-in-Presets : goal.returns-in-Presets
-unfolding opened_number
-returns-in-Presets c =
-    rw (← c.check_book.ensures, c.in-Presets.is) (i64_back _ c.size.type_inv ∙ c.size.ensures)
-
-pub returns-in-Refused : goal.returns-in-Refused
-unfolding opened_number
-returns-in-Refused c =
-    rw (← c.check_book.ensures, c.in-Refused.is) (i64_back _ c.refusal_number.type_inv ∙ c.refusal_number.ensures)
+pub returns : goal.returns
+returns c =
+    i64_back _ c.number_of.type_inv ∙ c.number_of.ensures ∙ opened_numbered _ ∙ ap opened_number c.check_book.ensures

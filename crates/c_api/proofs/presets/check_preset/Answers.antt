@@ -1,29 +1,21 @@
--- `presets::check_preset` goes by the cases of the answer, and stores the four fields one after the other.
+-- `presets::check_preset` hands a refusal on, or writes the four fields to the front of the list if it has room.
 -- Assumes nothing.
-use mathlib.Core.Path.{◌∙◌}
-use native.Mathlib.Omega.{arith}
-use lib.ListN.{length-set}
-use Rattle.c_api.specs.Calls.{refused}
-use Rattle.c_api.proofs.Lengths.{i64_back}
+use Rattle.c_api.specs.Calls.{number_of}
+use Rattle.c_api.proofs.Lengths.{handed_on, no_room}
 use Rattle.c_api.proofs.Outcomes.{fields_refused, fields_short, fields_stored}
 use Rattle.c_api.proofs.presets.check_preset.Goals as goal
 
-pub returns-then-fields-lt4 : goal.returns-then-fields-lt4
-unfolding refused
-returns-then-fields-lt4 c =
-    fields_short _ c.check_preset.ensures _ _ _ _ c.in-Found.is c.if-fields-lt4.true
+pub returns-in_err-preset-clause-numbers : goal.returns-in_err-preset-clause-numbers
+returns-in_err-preset-clause-numbers c = fields_refused _ c.in_err-preset.ensures (handed_on _ _ c.from_residual.ensures)
 
-pub bounds-fields-1 : goal.bounds-fields-1
-bounds-fields-1 c = simp length-set (omega arith)
+pub returns-in_err-ok_or-clause-numbers : goal.returns-in_err-ok_or-clause-numbers
+returns-in_err-ok_or-clause-numbers c =
+    let none = c.in_err-ok_or.ensures.ok_part in
+    fields_short _ c.in_ok-preset.ensures (rw none at c.first_chunk_mut.ensures.cases)
+    (no_room _ _ c.from_residual-in_err-ok_or.ensures c.in_err-ok_or.was (rw none at c.ok_or.ensures.value))
 
-pub bounds-fields-2 : goal.bounds-fields-2
-bounds-fields-2 c = simp length-set (omega arith)
-
-pub returns-else-fields-lt4 : goal.returns-else-fields-lt4
-returns-else-fields-lt4 c =
-    fields_stored _ c.check_preset.ensures _ _ _ _ c.in-Found.is c.if-fields-lt4.false
-
-pub returns-in-Refused : goal.returns-in-Refused
-returns-in-Refused c =
-    fields_refused _ c.check_preset.ensures _ _ c.in-Refused.is
-    (i64_back _ c.refusal_number.type_inv ∙ c.refusal_number.ensures)
+pub returns-clause-numbers : goal.returns-clause-numbers
+unfolding number_of
+returns-clause-numbers c =
+    let chunk = rw c.in_ok-ok_or.ensures.ok_part at c.first_chunk_mut.ensures.cases in
+    rw c.number.ensures (fields_stored _ c.in_ok-preset.ensures chunk.enough)

@@ -1,13 +1,7 @@
 -- `presets::convert` answers the number of the call below it, which fits: a book has at most 65,535 bytes.
 -- Assumes nothing.
-use mathlib.Core.Path.{sym, ◌∙◌}
-use Rattle.c_api.proofs.Lengths.{numbers_alike, converting_small}
+use Rattle.c_api.proofs.Lengths.{fits, converting_small}
 use Rattle.c_api.proofs.presets.convert.Goals as goal
 
-pub number-requires : goal.number-requires
-number-requires c l e = converting_small _ _ _ l (sym c.convert.ensures.value ∙ e)
-
-pub returns : goal.returns
-returns c =
-    let below = c.convert.ensures in
-    numbers_alike _ _ _ _ c.number.type_inv c.number.ensures (below.value, below.out_after)
+pub number_of-requires : goal.number_of-requires
+number_of-requires c = fits _ c.convert.ensures.value (converting_small _ _ _)

@@ -1,14 +1,8 @@
 -- `presets::read_presets` answers the number of the call below it, which fits: a book of at most 65,535 bytes has
 -- fewer presets.
 -- Assumes nothing.
-use mathlib.Core.Path.{sym, ◌∙◌}
-use Rattle.c_api.proofs.Lengths.{numbers_alike, reading_presets_small}
+use Rattle.c_api.proofs.Lengths.{fits, reading_presets_small}
 use Rattle.c_api.proofs.presets.read_presets.Goals as goal
 
-pub number-requires : goal.number-requires
-number-requires c l e = reading_presets_small _ _ _ _ l (sym c.read_presets.ensures.0 ∙ e)
-
-pub returns : goal.returns
-returns c =
-    let below = c.read_presets.ensures in
-    numbers_alike _ _ _ _ c.number.type_inv c.number.ensures below
+pub number_of-requires : goal.number_of-requires
+number_of-requires c = fits _ c.read_presets.ensures.0 (reading_presets_small _ _ _ _)

@@ -6,5 +6,5 @@ use Rattle.c_api.proofs.splits.winnathey_split.Goals as goal
 
 pub returns : goal.returns
 returns c =
-    as_bytes_back (splitting_listed_refusable _ _ _ _ _) _ _ _ _ c.byte.ensures c.byte-2.ensures c.split.type_inv
-    c.split.ensures
+    as_bytes_back (splitting_listed_refusable _ _ _ _ _) _ _ _ c.byte.ensures c.byte-2.ensures c.number_of.type_inv
+    c.number_of.ensures c.split.ensures.numbers

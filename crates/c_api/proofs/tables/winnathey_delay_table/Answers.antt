@@ -6,5 +6,5 @@ use Rattle.c_api.proofs.tables.winnathey_delay_table.Goals as goal
 
 pub returns : goal.returns
 returns c =
-    as_bytes_back (delay_table_listed_refusable _ _ _ _) _ _ _ _ c.byte.ensures c.byte-2.ensures c.table.type_inv
-    c.table.ensures
+    as_bytes_back (delay_table_listed_refusable _ _ _ _) _ _ _ c.byte.ensures c.byte-2.ensures c.number_of.type_inv
+    c.number_of.ensures c.table.ensures.numbers

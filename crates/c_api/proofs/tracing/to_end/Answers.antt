@@ -1,25 +1,33 @@
--- `traces::to_end` writes the final length where it has room, and else nothing; it goes by the cases of the answer.
+-- `tracing::to_end` writes the final length where it has room, and else nothing; it goes by the cases of the result.
 -- Assumes nothing.
-use mathlib.Core.Path.{sym, ◌∙◌}
-use Rattle.c_api.proofs.Lengths.{i64_back}
+use mathlib.Core.Path.{refl, sym}
+use native.Mathlib.Omega.{arith}
+use Rattle.c_api.specs.Calls.{number_of}
+use Rattle.c_api.proofs.Lengths.{handed_on, handed_first}
+use Rattle.c_api.proofs.Lists.{front_kept}
 use Rattle.c_api.proofs.StepNumbers.{rewriting_to_end_few, rewriting_to_end_listed_stored, rewriting_to_end_listed-refused, rewriting_to_end_listed-roomless}
 use Rattle.c_api.proofs.tracing.to_end.Goals as goal
 
-pub returns-then-written-lt1 : goal.returns-then-written-lt1
-returns-then-written-lt1 c =
-    rewriting_to_end_listed-roomless _ _ _ _ _ _ c.if-written-lt1.true
-    (i64_back _ c.refused_written.type_inv ∙ c.refused_written.ensures)
+pub returns-in_err-check_lists-clause-numbers : goal.returns-in_err-check_lists-clause-numbers
+returns-in_err-check_lists-clause-numbers c =
+    rewriting_to_end_listed-roomless _ _ _ _ _ _ c.in_default.ensures.cases c.in_err-check_lists.ensures
+    (handed_first _ _ c.from_residual.ensures)
 
-pub steps_number-requires : goal.steps_number-requires
-steps_number-requires c =
-    rewriting_to_end_few _ _ _ _ _ _ _ (sym c.rewrite_to_end.ensures.0 ∙ c.in-Ended.is)
+pub returns-in_default-clause-numbers : goal.returns-in_default-clause-numbers
+unfolding number_of
+returns-in_default-clause-numbers c =
+    rewriting_to_end_listed-roomless _ _ _ _ _ _ c.in_default.ensures.cases c.in_ok-check_lists.ensures refl
 
-pub returns-in-Ended : goal.returns-in-Ended
-returns-in-Ended c =
-    rewriting_to_end_listed_stored _ _ _ _ _ _ _ _ c.rewrite_to_end.ensures c.in-Ended.is
-    c.if-written-lt1.false (i64_back _ c.steps_number.type_inv ∙ c.steps_number.ensures)
+pub returns-in_err-rewriting-clause-numbers : goal.returns-in_err-rewriting-clause-numbers
+returns-in_err-rewriting-clause-numbers c =
+    rw (front_kept c.in-Some.ensures.cases)
+    (rewriting_to_end_listed-refused _ _ _ _ _ _ _ _ c.in_err-rewriting.ensures
+    (handed_on _ _ c.from_residual-in_err-rewriting.ensures))
 
-pub returns-in-Refused : goal.returns-in-Refused
-returns-in-Refused c =
-    rewriting_to_end_listed-refused _ _ _ _ _ _ _ _ c.rewrite_to_end.ensures c.in-Refused.is
-    (i64_back _ c.refusal_number.type_inv ∙ c.refusal_number.ensures)
+pub returns-clause-fits : goal.returns-clause-fits
+returns-clause-fits c = omega (arith, rewriting_to_end_few _ _ _ _ _ _ _ (sym c.in_ok-rewriting.ensures.0))
+
+pub returns-clause-numbers : goal.returns-clause-numbers
+unfolding number_of
+returns-clause-numbers c =
+    rewriting_to_end_listed_stored _ _ _ _ _ _ _ _ c.in_ok-rewriting.ensures c.in-Some.ensures.cases.enough

@@ -1,14 +1,15 @@
 -- `traces::winnathey_rewrite_steps` answers the number of the call below it, which fits.
 -- Assumes nothing.
-use mathlib.Core.Path.{sym, ◌∙◌}
+use native.Mathlib.Omega.{arith}
+use Rattle.c_api.proofs.Lengths.{fits}
 use Rattle.c_api.proofs.Bytes.{measured}
 use Rattle.c_api.proofs.StepNumbers.{number_of_steps_few, number_of_steps_refusable}
 use Rattle.c_api.proofs.tracing.winnathey_rewrite_steps.Goals as goal
 
-pub counted-requires : goal.counted-requires
-counted-requires c l e = number_of_steps_few _ _ _ l (sym c.rewrite_steps.ensures ∙ e)
+pub number_of-requires : goal.number_of-requires
+number_of-requires c = fits _ c.rewrite_steps.ensures (λ l e. omega (arith, number_of_steps_few _ _ _ l e))
 
 pub returns : goal.returns
 returns c =
-    measured (number_of_steps_refusable _) _ _ c.byte.ensures c.byte-2.ensures c.counted.type_inv c.counted.ensures
+    measured (number_of_steps_refusable _) _ _ c.byte.ensures c.byte-2.ensures c.number_of.type_inv c.number_of.ensures
     c.rewrite_steps.ensures

@@ -1,15 +1,14 @@
 -- `windows::winnathey_normal_form_of_window` answers the number of the call below it, which fits: a normal form has
 -- at most 4,096 letters.
 -- Assumes nothing.
-use mathlib.Core.Path.{sym, ◌∙◌}
-use Rattle.c_api.proofs.Lengths.{normal_form_of_window_small}
+use Rattle.c_api.proofs.Lengths.{fits, normal_form_of_window_small}
 use Rattle.c_api.proofs.Bytes.{normal_form_of_window_refusable, yielded}
 use Rattle.c_api.proofs.windows.winnathey_normal_form_of_window.Goals as goal
 
-pub number-requires : goal.number-requires
-number-requires c l e = normal_form_of_window_small _ _ _ _ l (sym c.normal_form_of_window.ensures.0 ∙ e)
+pub number_of-requires : goal.number_of-requires
+number_of-requires c = fits _ c.normal_form_of_window.ensures.0 (normal_form_of_window_small _ _ _ _)
 
 pub returns : goal.returns
 returns c =
-    yielded (normal_form_of_window_refusable _ _) _ _ c.byte.ensures c.byte-2.ensures c.number.type_inv c.number.ensures
+    yielded (normal_form_of_window_refusable _ _) _ _ c.byte.ensures c.byte-2.ensures c.number_of.type_inv c.number_of.ensures
     c.normal_form_of_window.ensures

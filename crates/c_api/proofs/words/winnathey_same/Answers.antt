@@ -1,41 +1,25 @@
 -- `words::winnathey_same` goes by the cases of the verdict.
 -- Assumes nothing.
-use mathlib.Core.Path.{◌≡◌, ◌∙◌}
-use Rattle.coxeter.specs.Calls.{presets_equal}
-use Rattle.c_api.specs.Calls.{verdict_number}
+use mathlib.Core.Path.{ap, ◌∙◌}
+use Rattle.c_api.specs.Calls.{refused, verdict_number}
 use Rattle.c_api.proofs.Lengths.{i64_back}
-use Rattle.c_api.proofs.Bytes.{verdict_as_bytes}
+use Rattle.c_api.proofs.Bytes.{verdict_numbered}
 use Rattle.c_api.proofs.words.winnathey_same.Goals as goal
 
-pub returns-in-Yes : goal.returns-in-Yes
+pub returns-in-Ok-true : goal.returns-in-Ok-true
 unfolding verdict_number
-returns-in-Yes c =
-    -- the verdict on the bytes is that on the numbers
-    let below : let a = c.args in
-    c.presets_equal.result ≡ presets_equal a.kind1 a.rank1 a.word1.now a.kind2 a.rank2 a.word2.now =
-    c.presets_equal.ensures
-    ∙ verdict_as_bytes _ _ (record { kind = c.byte.ensures; rank = c.byte-2.ensures })
-    (record { kind = c.byte-3.ensures; rank = c.byte-4.ensures }) in
-    rw (← below, c.in-Yes.is)
+returns-in-Ok-true c =
+    verdict_numbered _ _ _ _ _ _ c.byte.ensures c.byte-2.ensures c.byte-3.ensures c.byte-4.ensures c.presets_equal.ensures
+    (rw (c.in-Ok-true.is, c.in-Ok-true.field-0-test))
 
-pub returns-in-No : goal.returns-in-No
+pub returns-in-Ok-false : goal.returns-in-Ok-false
 unfolding verdict_number
-returns-in-No c =
-    -- the verdict on the bytes is that on the numbers
-    let below : let a = c.args in
-    c.presets_equal.result ≡ presets_equal a.kind1 a.rank1 a.word1.now a.kind2 a.rank2 a.word2.now =
-    c.presets_equal.ensures
-    ∙ verdict_as_bytes _ _ (record { kind = c.byte.ensures; rank = c.byte-2.ensures })
-    (record { kind = c.byte-3.ensures; rank = c.byte-4.ensures }) in
-    rw (← below, c.in-No.is)
+returns-in-Ok-false c =
+    verdict_numbered _ _ _ _ _ _ c.byte.ensures c.byte-2.ensures c.byte-3.ensures c.byte-4.ensures c.presets_equal.ensures
+    (rw (c.in-Ok-false.is, c.in-Ok-false.field-0-test))
 
-pub returns-in-Refused : goal.returns-in-Refused
+pub returns-in-Err : goal.returns-in-Err
 unfolding verdict_number
-returns-in-Refused c =
-    -- the verdict on the bytes is that on the numbers
-    let below : let a = c.args in
-    c.presets_equal.result ≡ presets_equal a.kind1 a.rank1 a.word1.now a.kind2 a.rank2 a.word2.now =
-    c.presets_equal.ensures
-    ∙ verdict_as_bytes _ _ (record { kind = c.byte.ensures; rank = c.byte-2.ensures })
-    (record { kind = c.byte-3.ensures; rank = c.byte-4.ensures }) in
-    rw (← below, c.in-Refused.is) (i64_back _ c.refusal_number.type_inv ∙ c.refusal_number.ensures)
+returns-in-Err c =
+    verdict_numbered _ _ _ _ _ _ c.byte.ensures c.byte-2.ensures c.byte-3.ensures c.byte-4.ensures c.presets_equal.ensures
+    (rw c.in-Err.is (i64_back _ c.refusal_number.type_inv ∙ c.refusal_number.ensures ∙ ap refused c.number.ensures))

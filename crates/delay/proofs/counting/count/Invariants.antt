@@ -1,13 +1,8 @@
 -- `counting::count` multiplies one level after another. The invariant: the levels with less than c greater sizes
 -- are counted.
 -- Assumes nothing.
-use Prim.Native.Nat.{◌-◌}
-use Rattle.coxeter.specs.Kinds.{kind_of}
 use Rattle.delay.proofs.counting.Levels.{Counted}
 use Rattle.delay.proofs.counting.count.Given as goal
 
 abbrev pub invariant-loop-c : goal.invariant-loop-c
-invariant-loop-c l = Counted (kind_of l.kind) l.rank l.counts l.d l.c
-
-abbrev pub decreases-loop-c : goal.decreases-loop-c
-decreases-loop-c l = l.m - l.c
+invariant-loop-c l = Counted l.group.kind l.group.rank l.counts l.d l.c

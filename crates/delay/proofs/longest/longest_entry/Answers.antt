@@ -1,38 +1,19 @@
 -- `longest::longest_entry` goes by the kind and, in kind D, by whether the rank is odd and the position the last.
 -- Assumes nothing.
-use Prim.Native.Nat.{◌+◌}
-use native.Mathlib.Omega.{arith}
-use Rattle.refusals.proofs.Bytes.{minus_cast_fits}
 use Rattle.delay.proofs.longest.Entries.{entry-A, entry-B, entry_even, entry_last, entry-odd}
 use Rattle.delay.proofs.longest.longest_entry.Goals as goal
 
-pub returns-then-kind-eq1 : goal.returns-then-kind-eq1
-returns-then-kind-eq1 c = let pre = c.requires in entry-A _ _ _ pre.0 pre.1 c.if-kind-eq1.true pre.2
+pub returns-in-A : goal.returns-in-A
+returns-in-A c = entry-A _ _ _ c.args.group.in_range c.requires _ c.lanes.ensures c.in-A.is
 
-pub overflow_sub-result-then-kind-eq2 : goal.overflow_sub-result-then-kind-eq2
-overflow_sub-result-then-kind-eq2 c = minus_cast_fits (c.args.i + 1) (omega arith)
-
-pub returns-then-kind-eq2 : goal.returns-then-kind-eq2
-returns-then-kind-eq2 c = let pre = c.requires in entry-B _ _ _ pre.0 pre.1 c.if-kind-eq2.true pre.2
-
-pub overflow_sub-result-then-even : goal.overflow_sub-result-then-even
-overflow_sub-result-then-even c = minus_cast_fits (c.args.i + 1) (omega arith)
+pub returns-in-B : goal.returns-in-B
+returns-in-B c = entry-B _ _ _ c.args.group.in_range c.requires c.in-B.is
 
 pub returns-then-even : goal.returns-then-even
-returns-then-even c =
-    let pre = c.requires in
-    entry_even _ _ _ pre.0 pre.1 c.if-kind-eq1.false c.if-kind-eq2.false c.if-even.true pre.2
+returns-then-even c = entry_even _ _ _ c.args.group.in_range c.requires c.in-D.is c.if-even.true
 
 pub returns-then-i-n : goal.returns-then-i-n
-returns-then-i-n c =
-    let pre = c.requires in
-    entry_last _ _ _ pre.0 pre.1 c.if-kind-eq1.false c.if-kind-eq2.false c.if-even.false c.if-i-n.true pre.2
+returns-then-i-n c = entry_last _ _ _ c.args.group.in_range c.requires c.in-D.is c.if-even.false c.if-i-n.true
 
-pub overflow_sub-result-2 : goal.overflow_sub-result-2
-overflow_sub-result-2 c =
-    minus_cast_fits (c.args.i + 1) (omega arith)
-
-pub returns : goal.returns
-returns c =
-    let pre = c.requires in
-    entry-odd _ _ _ pre.0 pre.1 c.if-kind-eq1.false c.if-kind-eq2.false c.if-even.false c.if-i-n.false pre.2
+pub returns-else-i-n : goal.returns-else-i-n
+returns-else-i-n c = entry-odd _ _ _ c.args.group.in_range c.requires c.in-D.is c.if-even.false c.if-i-n.false

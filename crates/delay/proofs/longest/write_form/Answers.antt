@@ -1,16 +1,14 @@
--- `longest::write_form` has the normal form of the longest window written by the call on windows, which no check
--- refuses.
+-- `longest::write_form` has the normal form of the longest window written by the call on windows, for which there is room.
 -- Assumes nothing.
-use mathlib.Core.Path.{sym, ◌∙◌}
-use lib.Seq.{length-take-le}
-use borrow.Author.Rules.{rules}
+use mathlib.Core.Path.{◌∙◌}
+use Rattle.distribution.proofs.Longest.{longest_is}
 use Rattle.delay.proofs.longest.Entries.{form_written}
 use Rattle.delay.proofs.longest.write_form.Goals as goal
 
-pub slice_bounds-normal_form_of_window-end : goal.slice_bounds-normal_form_of_window-end
-slice_bounds-normal_form_of_window-end c = sym (length-take-le _ _ (search rules))
+pub invariant_of-longest : goal.invariant_of-longest
+invariant_of-longest c =
+    record { accepted = rw (c.lanes.ensures, c.requires.entries_value) (longest_is _ _ c.args.group.in_range.0).passes }
 
 pub returns : goal.returns
 returns c =
-    let pre = c.requires in
-    c.normal_form_of_window.ensures.1 ∙ form_written _ _ _ _ pre.rank_of pre.entries_value pre.rank_in_bounds
+    c.write_form.ensures.1 ∙ form_written _ _ _ c.args.group.in_range (rw c.lanes.ensures c.requires.entries_value) c.requires.rank_in_bounds

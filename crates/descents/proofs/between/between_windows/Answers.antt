@@ -1,26 +1,34 @@
--- `between::between_windows` makes checks 5, 6 and 16, and lends a work array with room for every normal form of the
--- rank.
+-- `between::between_windows` makes checks 5, 6 and 16, then those of the windows, and asks for a work array with room for
+-- every normal form of the rank.
 -- Assumes nothing.
-use mathlib.Core.Path.{sym, ◌∙◌}
-use native.Mathlib.Omega.{arith}
-use Rattle.coxeter.proofs.Acceptance.{rank_accepted}
-use Rattle.shortest_words.proofs.BetweenCalls.{rank_of_set}
-use Rattle.window.proofs.Squares.{square_le_4096}
-use Rattle.descents.proofs.between.Leading.{square_le_64, square_le_256, refused_by_set}
+use Rattle.coxeter.proofs.Groups.{number_positive}
+use Rattle.descents.proofs.Answers.{answer_refused}
+use Rattle.descents.proofs.between.Leading.{refused_by_set, refused_by_windows, led}
 use Rattle.descents.proofs.between.between_windows.Goals as goal
 
-pub returns-then-refusal-ne0 : goal.returns-then-refusal-ne0
-returns-then-refusal-ne0 c = refused_by_set _ _ _ _ _ c.set_refusal-refusal.ensures c.if-refusal-ne0.true
+pub returns-in_err-group_with_set : goal.returns-in_err-group_with_set
+returns-in_err-group_with_set c =
+    rw (answer_refused _ _ c.from_residual.ensures) (refused_by_set _ _ _ _ _ c.in_err-group_with_set.ensures.refusal (number_positive _))
 
-pub write_between-requires : goal.write_between-requires
-write_between-requires c =
-    record { allowed_value = sym c.set_refusal-refusal.ensures ∙ c.if-refusal-ne0.false; rank_in_bounds = omega (arith, square_le_64 _ c.if-rank-le8.true, c.letters_64-form.ensures) }
+pub returns-in_err-from : goal.returns-in_err-from
+returns-in_err-from c =
+    rw (answer_refused _ _ c.from_residual-in_err-from.ensures)
+    (refused_by_windows _ _ _ _ _ c.in_ok-group_with_set.ensures.refusal c.in_err-from.ensures.refusal (number_positive _))
 
-pub write_between-requires-then-rank-le16 : goal.write_between-requires-then-rank-le16
-write_between-requires-then-rank-le16 c =
-    record { allowed_value = sym c.set_refusal-refusal.ensures ∙ c.if-refusal-ne0.false; rank_in_bounds = omega (arith, square_le_256 _ c.if-rank-le16.true, c.letters_256-form.ensures) }
+pub returns-in-0-to-8 : goal.returns-in-0-to-8
+returns-in-0-to-8 c =
+    let w = c.in_ok-from.ensures in
+    led _ _ _ _ _ c.in_ok-group_with_set.ensures.refusal _ w.refusal
+    (rw (w.windows.0.0, w.windows.0.1, w.windows.0.2, w.windows.1.2) at c.write_between.ensures)
 
-pub write_between-requires-2 : goal.write_between-requires-2
-write_between-requires-2 c =
-    let z = sym c.set_refusal-refusal.ensures ∙ c.if-refusal-ne0.false in
-    record { allowed_value = z; rank_in_bounds = omega (arith, square_le_4096 _ (rank_accepted _ _ (rank_of_set _ _ _ z)).1, c.letters_4096-form.ensures) }
+pub returns-in-9-to-16 : goal.returns-in-9-to-16
+returns-in-9-to-16 c =
+    let w = c.in_ok-from.ensures in
+    led _ _ _ _ _ c.in_ok-group_with_set.ensures.refusal _ w.refusal
+    (rw (w.windows.0.0, w.windows.0.1, w.windows.0.2, w.windows.1.2) at c.write_between-in-9-to-16.ensures)
+
+pub returns-in_default : goal.returns-in_default
+returns-in_default c =
+    let w = c.in_ok-from.ensures in
+    led _ _ _ _ _ c.in_ok-group_with_set.ensures.refusal _ w.refusal
+    (rw (w.windows.0.0, w.windows.0.1, w.windows.0.2, w.windows.1.2) at c.write_between-in_default.ensures)

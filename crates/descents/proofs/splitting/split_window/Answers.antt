@@ -1,39 +1,30 @@
 -- `splitting::split_window` strips the inverse of the window, and has the two words written.
 -- Assumes nothing.
-use mathlib.Core.Path.{refl}
-use Rattle.descents.proofs.Fallbacks.{part_length, part_is}
-use Rattle.descents.proofs.splitting.Halves.{stored_room, stored_is, stored_size, strip_asked, parts_asked, parts_are}
+use Rattle.coxeter.proofs.Theorems.{inverse_passes}
+use Rattle.descents.proofs.Answers.{written_front, never_refused}
+use Rattle.descents.proofs.splitting.Halves.{inverse_small, rest_passes, parts_are}
 use Rattle.descents.proofs.splitting.split_window.Goals as goal
 
-pub slice_bounds-strip-end : goal.slice_bounds-strip-end
-slice_bounds-strip-end c =
-    part_length _ _ _ _ _ c.invert.ensures.1 refl c.invert.ensures.0
+pub returns-in_err-m : goal.returns-in_err-m
+returns-in_err-m c =
+    absurd (never_refused _ _ _ c.in_err-m.ensures (inverse_small _ _ _ c.args.w.group.in_range c.args.w.accepted))
+
+pub slice_bounds-back-end : goal.slice_bounds-back-end
+slice_bounds-back-end c = (written_front _ _ _ c.in_ok-m.ensures).bound
+
+pub slice_bounds-rest-end : goal.slice_bounds-rest-end
+slice_bounds-rest-end c = (written_front _ _ _ c.in_ok-m.ensures).size
 
 pub strip-requires : goal.strip-requires
 strip-requires c =
-    let h = strip_asked _ _ 0 _ c.requires.0 c.requires.1 (part_is _ _ _ _ _ c.invert.ensures.1 refl) in
-    record { ranked = h.0; window_of = h.1 }
+    rw (written_front _ _ _ c.in_ok-m.ensures).part (inverse_passes _ _ _ c.args.w.accepted)
 
-pub slice_bounds-rest-end-2 : goal.slice_bounds-rest-end-2
-slice_bounds-rest-end-2 c =
-    let size = part_length _ _ _ _ _ c.invert.ensures.1 refl c.invert.ensures.0 in
-    stored_room _ _ c.strip.new.w size c.strip.auto.w
-
-pub slice_bounds-write_parts-end : goal.slice_bounds-write_parts-end
-slice_bounds-write_parts-end c =
-    let size = part_length _ _ _ _ _ c.invert.ensures.1 refl c.invert.ensures.0 in
-    stored_size _ _ c.strip.new.w size c.strip.auto.w
-
-pub write_parts-requires : goal.write_parts-requires
-write_parts-requires c = let size = part_length _ _ _ _ _ c.invert.ensures.1 refl c.invert.ensures.0 in
-    let h = parts_asked _ _ _ _ c.requires.0 c.requires.1 (part_is _ _ _ _ _ c.invert.ensures.1 refl)
-    (stored_is _ _ _ size c.strip.auto.w)
-    c.strip.ensures in
-    record { rank_of = h.0; window_of = h.1.0; window_of_2 = h.1.1 }
+pub invariant_of-pair : goal.invariant_of-pair
+invariant_of-pair c =
+    let s = rw (written_front _ _ _ c.in_ok-m.ensures).part at c.strip.ensures in
+    let w = c.args.w in record { first_accepted = w.accepted; second_accepted = rest_passes _ _ _ _ w.group.in_range w.accepted s }
 
 pub returns : goal.returns
 returns c =
-    let size = part_length _ _ _ _ _ c.invert.ensures.1 refl c.invert.ensures.0 in
-    parts_are _ _ _ _ c.requires.0 c.requires.1 (part_is _ _ _ _ _ c.invert.ensures.1 refl)
-    (stored_is _ _ _ size c.strip.auto.w)
-    c.strip.ensures _ _ _ _ _ c.write_parts.ensures
+    let s = rw (written_front _ _ _ c.in_ok-m.ensures).part at c.strip.ensures in
+    let w = c.args.w in parts_are _ _ _ _ w.group.in_range w.accepted s _ _ _ _ _ c.write_parts.ensures

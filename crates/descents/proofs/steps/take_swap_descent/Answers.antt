@@ -1,6 +1,5 @@
 -- `steps::take_swap_descent` swaps two neighbours where they are crossed.
 -- Assumes nothing.
-use mathlib.Core.Path.{refl}
 use Rattle.window.proofs.ByteSteps.{set_eq_swap}
 use Rattle.descents.proofs.steps.Descents.{later_told}
 use Rattle.descents.proofs.steps.take_swap_descent.Goals as goal
@@ -10,7 +9,3 @@ returns-then-is_later c = (
   later_told _ _ c.a-1.given c.b-1.given c.is_later.ensures c.if-is_later.true,
   set_eq_swap _ _ c.requires c.a-1.given c.b-1.given,
 )
-
-pub returns : goal.returns
-returns c =
-    (later_told _ _ c.a-1.given c.b-1.given c.is_later.ensures c.if-is_later.false, refl)

@@ -1,20 +1,11 @@
 -- `steps::take_swap_negate_descent` swaps two neighbours with their signs changed, where the first stands later than minus
 -- the second.
 -- Assumes nothing.
-use mathlib.Core.Path.{refl}
 use Prim.Native.Nat.{◌+◌}
 use lib.IntN.{pos}
 use lib.ListN.{get_or}
-use Rattle.descents.proofs.steps.Descents.{later_negated_told, negated_fits, set_eq_swapped}
+use Rattle.descents.proofs.steps.Descents.{later_negated_told, set_eq_swapped}
 use Rattle.descents.proofs.steps.take_swap_negate_descent.Goals as goal
-
-pub overflow_sub-c : goal.overflow_sub-c
-overflow_sub-c c =
-    negated_fits (get_or c.args.w.now (c.args.p + 1) (pos 0)) c.b-1.given c.requires.pos_bound_2
-
-pub overflow_sub-w : goal.overflow_sub-w
-overflow_sub-w c =
-    negated_fits (get_or c.args.w.now c.args.p (pos 0)) c.a-1.given c.requires.pos_bound
 
 pub returns-then-is_later : goal.returns-then-is_later
 returns-then-is_later c =
@@ -22,8 +13,3 @@ returns-then-is_later c =
       later_negated_told _ y c.a-1.given c.b-1.given c.requires.pos_bound_2 c.is_later.ensures c.if-is_later.true,
       set_eq_swapped _ _ c.requires.p_in_bounds c.a-1.given c.requires.pos_bound c.b-1.given c.requires.pos_bound_2,
     )
-
-pub returns : goal.returns
-returns c =
-    let y = get_or c.args.w.now (c.args.p + 1) (pos 0) in
-    (later_negated_told _ y c.a-1.given c.b-1.given c.requires.pos_bound_2 c.is_later.ensures c.if-is_later.false, refl)

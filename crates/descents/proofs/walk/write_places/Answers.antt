@@ -1,33 +1,18 @@
 -- What `search` leaves open of the proof of `walk::write_places`.
-use native.Mathlib.Omega.{arith}
-use Rattle.coxeter.proofs.Lists.{storing_all}
 use Rattle.descents.proofs.walk.Walking.{writing_room, writing_kept, writing_left, writing_end}
 use Rattle.descents.proofs.walk.write_places.Goals as goal
-use Rattle.descents.proofs.walk.write_places.Goals.{then-word-i-ne0, else-word-i-ne0}
-
-pub loop-i-init : goal.loop-i-init
-loop-i-init c = (omega arith, storing_all)
+use Rattle.descents.proofs.walk.write_places.Goals.{then-s-ne0, else-s-ne0}
 
 pub bounds-places-at : goal.bounds-places-at
 bounds-places-at c =
-    writing_room _ _ _ _ _ c.loop-i-test.true c.loop-i.invariant.1 c.if-word-i-ne0.true c.requires.word_in_bounds
-
-pub overflow_add-at : goal.overflow_add-at
-overflow_add-at c =
-    let r = writing_room _ _ _ _ _ c.loop-i-test.true c.loop-i.invariant.1 c.if-word-i-ne0.true c.requires.word_in_bounds in
-    omega arith
+    writing_room _ _ _ _ _ c.loop-i-test.true c.loop-i.invariant c.if-s-ne0.true c.requires.word_in_bounds
 
 pub loop-i-preserved : goal.loop-i-preserved
-loop-i-preserved c = (
-  omega arith,
-  elim c.if-word-i-ne0.branch [
-    | then-word-i-ne0 w ↦ rw (w.places-is, w.at-is) (writing_kept _ _ _ _ _ c.loop-i-test.true c.loop-i.invariant.1 w.if-word-i-ne0.true)
-    | else-word-i-ne0 w ↦ rw (w.places-is, w.at-is) (writing_left _ _ _ _ _ c.loop-i-test.true c.loop-i.invariant.1 w.if-word-i-ne0.false)
-  ],
-)
-
-pub shape_of-places : goal.shape_of-places
-shape_of-places c = c.loop-i.invariant.1.size
+loop-i-preserved c =
+    elim c.if-s-ne0.branch [
+      | then-s-ne0 w ↦ rw (w.places-is, w.at-is) (writing_kept _ _ _ _ _ c.loop-i-test.true c.loop-i.invariant w.if-s-ne0.true)
+      | else-s-ne0 w ↦ rw (w.places-is, w.at-is) (writing_left _ _ _ _ _ c.loop-i-test.true c.loop-i.invariant w.if-s-ne0.false)
+    ]
 
 pub returns : goal.returns
-returns c = writing_end _ _ _ c.loop-i-test.false c.requires.word_in_bounds c.loop-i.invariant.1
+returns c = writing_end _ _ _ c.loop-i-test.false c.requires.word_in_bounds c.loop-i.invariant
