@@ -3,34 +3,57 @@
 -- Sections: whether a word is handed back; the better word.
 -- Assumes nothing.
 use mathlib.Core.Path.{◌≡◌, refl, sym, ap, ◌∙◌}
-use mathlib.Core.Bool.{Bool, true, false, ◌&&◌, false≢true}
+use mathlib.Core.Bool.{Bool, true, false, ◌&&◌, beq, false≢true}
 use mathlib.Core.List.{List}
 use Prim.Native.Nat.{ℕ}
 use native.Mathlib.Nat.{zero-add}
 use denote.Ref.{Bor}
+use native.Mathlib.Decide.{ℕ_discrete}
+use borrow.Author.Tests.{ne_eqb}
 use borrow.Rule.Slice.PartAt.{sl_partˢ}
 use borrow.Rule.Slice.Shared.{by_byte}
+use Rattle.std.specs.Prelude.{Result, Ok, Err}
+use Rattle.std.specs.Result.{result_eq}
 use Rattle.coxeter.specs.answers.Choice as choices
-use lib.Dec.{eqb}
-use Rattle.coxeter.specs.declared.Word.{Word}
-use Rattle.coxeter.specs.Kinds.{kind_of, lanes}
-use Rattle.coxeter.specs.Windows.{window}
-use Rattle.coxeter.specs.Checks.{◌then◌, rank_refusal, word_refusal}
-use Rattle.coxeter.specs.Calls.{same_window, same_presets, hands_back, choice, Better}
-use Rattle.coxeter.proofs.Outcomes.{hands_back_words, same_words}
+use Rattle.coxeter.specs.answers.Verdict as verdict
+use Rattle.coxeter.specs.answers.Verdict.{Verdict, as_verdict}
+use Rattle.coxeter.specs.declared.Refusal.{Refusal}
+use Rattle.coxeter.specs.Kinds.{pick}
+use Rattle.coxeter.specs.Checks.{rank_refusal}
+use Rattle.coxeter.specs.Calls.{verdict_of, presets_equal, hands_back, choice, Better}
+use Rattle.coxeter.proofs.Outcomes.{same_words}
 use Rattle.coxeter.proofs.Orders.{choice_exactly}
 
 -- ---- whether a word is handed back
 
--- a word of an accepted pair is handed back exactly when the two show the same
-pub hands_back_shown : (k n : ℕ) (u v : Bor (List ℕ)) (a b : Word) {t : Bool} → 0 ≡ (rank_refusal k n then word_refusal n u.now then word_refusal n v.now)
-    → ((a.group.kind ≡ kind_of k) × (a.group.rank ≡ n) × (a.letters ≡ u)) × ((b.group.kind ≡ kind_of k) × (b.group.rank ≡ n) × (b.letters ≡ v))
-    → t ≡ (eqb (lanes a.group.kind a.group.rank) (lanes b.group.kind b.group.rank)
-    && same_window (window a.group.kind a.group.rank a.letters.now) (window b.group.kind b.group.rank b.letters.now))
-    → hands_back k n u.now v.now ≡ t
-unfolding same_presets
-hands_back_shown k n u v a b e h s =
-    hands_back_words k n u.now v.now e refl ((rw (h.0.0, h.0.1, h.0.2, h.1.0, h.1.1, h.1.2) at s) ∙ same_words k n u.now v.now)
+-- the verdict is yes
+abbrev is_yes : Verdict → Bool
+is_yes verdict.Yes = true
+is_yes verdict.No = false
+is_yes (verdict.Refused r) = false
+
+yes_of_checks : (passed same : Bool) (r : ℕ) → (passed && same) ≡ is_yes (pick passed (pick same verdict.Yes verdict.No) (verdict.Refused r))
+yes_of_checks true true r = refl
+yes_of_checks true false r = refl
+yes_of_checks false same r = refl
+
+yes_of_result : (e : Refusal → Refusal → Bool) (r : Result Bool Refusal) → is_yes (as_verdict r) ≡ result_eq beq e r (Ok true)
+yes_of_result e (Ok true) = refl
+yes_of_result e (Ok false) = refl
+yes_of_result e (Err x) = refl
+
+-- a word is handed back exactly when the verdict on the two is yes
+hands_back_verdict : (k n : ℕ) (u v : List ℕ) → hands_back k n u v ≡ is_yes (presets_equal k n u k n v)
+unfolding hands_back presets_equal verdict_of
+hands_back_verdict k n u v =
+    elim (ℕ_discrete (rank_refusal k n) 0) [
+      | yes z ↦ rw (z, same_words k n u v) (yes_of_checks _ _ _)
+      | no f ↦ rw (ne_eqb (rank_refusal k n) 0 f, ne_eqb (rank_refusal k n) 0 f) refl
+    ]
+
+pub hands_back_result : (k n : ℕ) (u v : List ℕ) (e : Refusal → Refusal → Bool) (r : Result Bool Refusal) → as_verdict r ≡ presets_equal k n u k n v
+    → hands_back k n u v ≡ result_eq beq e r (Ok true)
+hands_back_result k n u v e r h = hands_back_verdict k n u v ∙ (ap is_yes (sym h) ∙ yes_of_result e r)
 
 -- ---- the better word
 

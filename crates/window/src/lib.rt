@@ -6,8 +6,8 @@
 // is a definition of coxeter/specs/Calls for every input, refused ones included. An accepted call writes to the front
 // of its output and leaves what lies behind (I2); a refused one writes nothing (CO6).
 //
-// For the layers above, `length_of`, `lacks_room` and the calls whose names begin with `write` take a word or a window
-// that passed its checks. They make check 14 alone.
+// For the layers above, `lacks_room` and the calls whose names begin with `write` take a word or a window that passed
+// its checks. They make check 14 alone.
 #![tactic(auto)]
 
 mod action;
@@ -47,7 +47,7 @@ use pairs::accepted_pair;
 use refusals::{accepted_presets, accepted_window, accepted_words};
 pub use refusals::{accepted_word, group_of};
 use shown::{inverse_of, shown, shown_product};
-use words::{is_shortlex, show_same};
+use words::is_shortlex;
 
 // I4: writes the window of `word` and returns its length, the number of lanes. Checks 5, 6, 7, 8, 14.
 pub fn window_of_word(kind: u8, rank: u8, word: &[u8], out: &mut [i8]) -> Result<usize, Refusal>
@@ -224,7 +224,12 @@ pub fn presets_equal(
     ensures { as_verdict result ≡ presets_equal kind_a rank_a a.now kind_b rank_b b.now }
 {
     let (first, second) = accepted_presets(kind_a, rank_a, a, kind_b, rank_b, b)?;
-    Ok(show_same(first, second))
+    if first.group.lanes() != second.group.lanes() {
+        return Ok(false);
+    }
+    let mut work = [0i8; 64];
+    let mut other = [0i8; 64];
+    Ok(shown(first, &mut work).entries == shown(second, &mut other).entries)
 }
 
 // I17: which of two words is the better one (V3), or neither if the windows differ or a check refuses; then
@@ -232,10 +237,7 @@ pub fn presets_equal(
 pub fn which_better(kind: u8, rank: u8, u: &[u8], v: &[u8]) -> Option<Better>
     ensures { as_choice result ≡ choice (hands_back kind rank u.now v.now) (shortlex v.now u.now) }
 {
-    let Ok((first, second)) = accepted_words(kind, rank, u, v) else {
-        return None;
-    };
-    if !show_same(first, second) {
+    if presets_equal(kind, rank, u, kind, rank, v) != Ok(true) {
         return None;
     }
     if is_shortlex(v, u) {
