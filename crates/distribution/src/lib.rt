@@ -10,7 +10,8 @@ pub struct TableLengths {
     pub letters: usize,
 }
 
-// One number less another, or both together: how a factor of the distribution combines a number with one before it.
+// One number less another, or both together: how a factor of the distribution combines a number with one before it. Not a
+// closure, since the laws of the factors speak of these two ways alone.
 #[derive(Clone, Copy, Debug, PartialEq, Eq)]
 pub enum Combination {
     Difference,
