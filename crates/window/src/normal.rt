@@ -79,7 +79,8 @@ fn write_turned(kind: Kind, n: usize, i: usize, j: usize, out: &mut [u8], at: us
 }
 
 // N4 to N8: writes the block [i,j] from the place `at` on and returns the place after it. Before the turn the block goes
-// up only. The windows have m entries: in B and D that is the rank, and in A every j is below it.
+// up only. The windows have m entries: in B and D that is the rank, and in A every j is below it; so m is a number, and
+// not that of a group.
 fn write_block(kind: Kind, m: usize, i: usize, j: usize, out: &mut [u8], at: usize) -> usize
     requires ranked { Ranked kind m × (j ≤ 2 * m) × (kind ≡ A → j < m) }
     requires j_in_bounds { at + length (block kind m i j) ≤ length out.old }
