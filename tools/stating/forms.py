@@ -17,22 +17,23 @@ NAME = re.compile(rf"(?:[!-~{INSIDE}]*|[{FIRST}](?:s|'|[-_][!-~]*)?)[{ENDS}]*|[{
 BLOCK = re.compile(r"\{-|-\}|/\*|\*/")
 # of antt: a comment is a whole line, a text ends on its line
 COMMENT, TEXT = re.compile(r"(?m)^ *--(?: .*)?$"), re.compile(r'"(?:[^"\\\n]|\\.)*"')
-UNUSED_ANTT = re.compile(r"""--.*|["«].*|\b(?:mutual|axiom|package|ruleset|deriving|pattern)\b(?![-\w])""")
-# an open brings names: it stands in no file of statements, nor in one that could be; the proof of a function, in a folder of its own, may have it
-OPENED, OF_FUNCTION = re.compile(r"(?<![\w.-])(?:open|using|renaming|hiding)(?![\w.-])"), re.compile(r"crates/\w+/proofs/.+/\w+\.antt")
+UNUSED_ANTT = re.compile(r"""--.*|["«].*|\b(?:mutual|axiom|package|deriving|pattern)\b(?![-\w])""")
+# an open brings names, and a list of rules for a search has one: they stand in no file of statements, nor in one that could be; the proofs of a module, in a
+# folder of its own, may have them
+OPENED, OF_FUNCTION = re.compile(r"(?<![\w.-])(?:open|using|renaming|hiding|ruleset)(?![\w.-])"), re.compile(r"crates/\w+/proofs/.+/\w+\.antt")
 # of Rattle: a comment, a text, which may go on behind a backslash at the end of a line, and a character
 BLANKED = re.compile(r"""(?s)//[^\n]*|"(?:[^"\\\n]|\\.)*"|'(?:[^'\\\n]|\\[^'\n]+|\\')'""")
 # attributes have lines of their own: for C, what the language derives, and where and how a proof is sought
 ATTRIBUTE = re.compile(r"""(?mx)^[ ]*(?:\#\[unsafe\(no_mangle\)\] | \#\[derive\((?:DERIVED)(?:,[ ](?:DERIVED))*\)\] | \#\[cycle\(\w+\)\] | \#!?\[tactic\([^\n"]*\)\])$"""
                        .replace("DERIVED", "Clone|Copy|Debug|Default|Drop|Eq|Hash|Ord|PartialEq|PartialOrd"))
 # the kit's macros, under whose names no other can stand: they write code within a function
-MACRO = re.compile(r"\b(?:e?print(?:ln)?|format|vec|write(?:ln)?|prove(?:_eq|_ne)?|assert(?:_eq|_ne)?|matches)!(?=[(\[])")
-UNUSED = re.compile(r"""\b(?:trait|unsafe|static|async|union|dyn|macro_rules)\b|\w!(?!=)|--|#.*|(?<!"C)"(?!C")""")
+MACRO = re.compile(r"\b(?:e?print(?:ln)?|format|vec|write(?:ln)?|prove(?:_eq|_ne)?|assert(?:_eq|_ne)?|matches|unreachable)!(?=[(\[])")
+UNUSED = re.compile(r"""(?<!&')\b(?:trait|unsafe|static|async|union|dyn|macro_rules)\b|\w!(?!=)|--|#.*|(?<!"C)"(?!C")""")
 # every item begins its line and has one of these forms, and their words stand nowhere else
 # a parameter of a type may be an impl of a trait, or a number
 PARAMETER = re.compile(r"&impl\b|(?<=[<,] )const \w+: usize(?=[,>])|(?<=<)const \w+: usize(?=[,>])")
 # an impl, and within one a type, a ghost member, or the ghost field of a struct
-OF_TYPES = r"impl(?:<[^{};]*?>)? (?:[\w:]+(?:<[^{};]*>)? for )?\w+(?:<[^{};]*>)? \{$| +type \w+ = [\w:<>]+;$| +ghost \w+(?: =|:) \{"
+OF_TYPES = r"impl(?:<[^{};]*?>)? (?:[\w:]+(?:<[^{};]*>)? for )?\w+(?:<[^{};]*>)? \{$| +type \w+ = [\w:<>]+;$| +(?:pub(?:\(crate\))? )?ghost \w+(?: =|:) \{"
 ITEM = re.compile(rf"""(?m)^(?:{OF_TYPES})|""" + r"""^ *(?:(?:pub(?:\(crate\))? )?(?:(?:fn|extern "C" fn|enum|struct) \w|const \w+:|mod \w+;$|use [\w:]+(?:::\{\s*[\w:]+(?:,\s*[\w:]+)*,?\s*\})?;$)|ghost use \S|pub(?:\(crate\))? \w+: )""")
 BEGINS = re.compile(r"\b(?:fn|enum|struct|impl|type|const|mod|use|ghost|pub|extern)\b")
 

@@ -27,6 +27,7 @@ class Function:
 class Type:
     name: str
     kind: str
+    public: bool
     path: str
     line: int
     text: str
@@ -60,7 +61,7 @@ def behind_types(code, at):
 
 # the head of an impl: the trait, if it is of one, and the type
 IMPL = re.compile(r"(?m)^impl(?:<[^{};]*?>)? (?:([\w:]+(?:<[^{};]*>)?) for )?(\w+)(?:<[^{};]*>)? \{$")
-GHOST_MEMBER, GHOST_FIELD = re.compile(r"(?m)^ +ghost (\w+) = (?=\{)"), re.compile(r"(?m)^ +ghost (\w+): (?=\{)")
+GHOST_MEMBER, GHOST_FIELD = re.compile(r"(?m)^ +ghost (\w+) = (?=\{)"), re.compile(r"(?m)^ +(?:pub(?:\([a-z]+\))? )?ghost (\w+): (?=\{)")
 
 
 @dataclass
@@ -95,7 +96,7 @@ class File:
                 within = next((one for one in self.impls if one.start < start < one.end), None)
                 self._function(start, item.end(), name, public, line, within)
             else:
-                self._type(start, item.end(), name, kind, line)
+                self._type(start, item.end(), name, kind, line, public)
 
     def _comment_above(self, line):
         said = []
@@ -147,11 +148,11 @@ class File:
             comment = comment or self._comment_above(self.source.count("\n", 0, within.start) + 1)
         self.functions.append(Function(name, public, self.path, line, text, parameters, clauses, comment))
 
-    def _type(self, start, at, name, kind, line):
+    def _type(self, start, at, name, kind, line, public):
         brace = re.compile(r"[{;(]").search(self.code, at)
         end = closing(self.code, brace.start()) if brace and brace.group() != ";" else at
         inside = re.sub(r"pub(\(\w+\))? |(?<!\w)ghost ", "", self.code[brace.start() + 1: end - 1]) if brace else ""
-        made = Type(name, kind, self.path, line, self.source[start:end], self._comment_above(line))
+        made = Type(name, kind, public, self.path, line, self.source[start:end], self._comment_above(line))
         made.ghosts = [self._braced(ghost.end()) for ghost in GHOST_FIELD.finditer(self.code, start, end)]
         made.fields = re.findall(r"(\w+)\s*:", inside)
         flat, depth = "", 0

@@ -348,7 +348,7 @@ class Builder:
         """What is true of every value of a type, as its ghost fields state it of the others."""
         for crate in self.world.crates:
             for file in self.world.rattle(crate):
-                for made in (one for one in file.types if one.ghosts):
+                for made in (one for one in file.types if one.public and one.ghosts):
                     reader = Reader(Scope(self.world, file.path, file.ghosts, [], file), self.fields)
                     for fact in made.ghosts:
                         reader.statement(fact, made.fields)

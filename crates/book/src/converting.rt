@@ -1,19 +1,21 @@
 // A book turned into the other edition: the checks of each record, then the records one after the other, their
 // offsets and the count.
-ghost use Rattle.std.specs.Prelude.{◌≡◌, ◌+◌, ◌*◌, ◌≤◌, ◌<◌, length};
+ghost use Rattle.std.specs.Prelude.{◌≡◌, ◌+◌, ◌*◌, ◌≤◌, ◌<◌, length, IfOk};
 ghost use Rattle.std.proofs.lemmas.List.Edits.{sets};
-ghost use Rattle.book_format.specs.Books.{count, offset, count_place, head_size, kind_at, rank_at, lanes_at, letter_count_at, letters_at, book_refusal, record_of};
+ghost use Rattle.coxeter.specs.Refusals.{refusal_of};
+ghost use Rattle.coxeter.specs.answers.Answer.{as_answer};
+ghost use Rattle.book_format.specs.Books.{offset, head_size, kind_at, rank_at, lanes_at, letter_count_at, letters_at, record_of};
 ghost use Rattle.book_format.specs.Records.{record_bytes, offset_bytes, records_from};
 ghost use Rattle.book_format.specs.Conversion as conversion;
-ghost use Rattle.book_format.specs.Conversion.{converted, too_many_lanes, record_conversion_refusal, records_conversion_refusal, conversion_refusal, converting};
-ghost use Rattle.book_format.proofs.Converting.{Convertible, size_of};
+ghost use Rattle.book_format.specs.Conversion.{converted, records_conversion_refusal, conversion_refusal, converting};
+ghost use Rattle.book_format.proofs.Converting.{size_of};
 
-use crate::numbers::{count_of, put_two, record_start, two_at};
-use crate::reading::{LARGEST, book_refusal, check_record};
-use crate::records::{count_place, head_size, lanes_at};
-use crate::writing::write_record;
-use book_format::{Edition, Preset};
-use window::Answer;
+use crate::checked::{CheckedBook, LARGEST};
+use crate::numbers::put_two;
+use crate::records::head_size;
+use crate::writing::{Contents, write_record};
+use book_format::Edition;
+use window::Refusal;
 
 fn other(edition: Edition) -> Edition
     ensures { result ≡ conversion.other edition }
@@ -24,178 +26,128 @@ fn other(edition: Edition) -> Edition
     }
 }
 
-// The size of the book converted from one of that size: a record has one byte more in the second edition.
-fn converted_size(edition: Edition, size: usize, c: usize) -> usize
-    requires { (c ≤ size) × (size ≤ 65535) }
-    ensures { result ≡ size_of edition size c }
+// The size of the converted book: a record has one byte more in the second edition.
+fn converted_size(book: &CheckedBook) -> usize
+    ensures { result ≡ size_of book.now.edition (length book.now.bytes.now) book.now.presets }
 {
-    match edition {
-        Edition::First => size + c,
-        Edition::Second => size - c,
+    match book.edition {
+        Edition::First => book.bytes.len() + book.presets,
+        Edition::Second => book.bytes.len() - book.presets,
     }
 }
 
-// C18, of the record at byte o. Going to the second edition no record has too many lanes.
-fn has_too_many_lanes(edition: Edition, book: &[u8], o: usize) -> bool
-    requires { o + count_place edition ≤ length book.now }
-    ensures { result ≡ too_many_lanes edition book.now o }
+// CO5: the first refusal of a record.
+fn check_records(book: &CheckedBook) -> Result<(), Refusal>
+    ensures { refusal_of result ≡ records_conversion_refusal book.now.edition book.now.bytes.now book.now.presets 0 }
 {
-    match edition {
-        Edition::First => false,
-        Edition::Second => 32 < book[o + 2],
+    for i in 0..book.presets {
+        book.record(i).check_conversion()?;
     }
-}
-
-// C5 to C8, C17 and C18, of a record by its number.
-fn record_refusal(edition: Edition, book: &[u8], c: usize, number: usize) -> u8
-    requires { (book_refusal edition book.now ≡ 0) × (c ≡ count book.now) × (number < c) }
-    ensures { result ≡ record_conversion_refusal edition book.now (offset book.now number) }
-{
-    let o = record_start(book, c, number);
-    match check_record(edition, book, o) {
-        Preset::Found {
-            kind: _,
-            rank: _,
-            start: _,
-            length: _,
-        } => {
-            if has_too_many_lanes(edition, book, o) {
-                return 18;
-            }
-            0
-        }
-        Preset::Refused(refusal) => refusal,
-    }
-}
-
-// CO5: the first refusal of a record, or 0.
-fn records_refusal(edition: Edition, book: &[u8], c: usize) -> u8
-    requires { (book_refusal edition book.now ≡ 0) × (c ≡ count book.now) }
-    ensures { result ≡ records_conversion_refusal edition book.now c 0 }
-{
-    let mut i = 0;
-    while i < c {
-        let refusal = record_refusal(edition, book, c, i);
-        if refusal != 0 {
-            return refusal;
-        }
-        i += 1;
-    }
-    0
+    Ok(())
 }
 
 // C1 to C3 of the book, each record's checks in order, C13.
-fn conversion_refusal(edition: Edition, book: &[u8]) -> u8
-    ensures { result ≡ conversion_refusal edition book.now }
+fn convertible(edition: Edition, book: &[u8]) -> Result<CheckedBook, Refusal>
+    ensures refusal { refusal_of result ≡ conversion_refusal edition book.now }
+    ensures book { IfOk result (λ checked. (checked.edition ≡ edition) × (checked.bytes ≡ book.entry)) }
 {
-    let refusal = book_refusal(edition, book);
-    if refusal != 0 {
-        return refusal;
+    let book = CheckedBook::open(edition, book)?;
+    check_records(&book)?;
+    if LARGEST < converted_size(&book) {
+        return Err(Refusal::NewBookTooLong);
     }
-    let c = count_of(book);
-    let refusal = records_refusal(edition, book, c);
-    if refusal != 0 {
-        return refusal;
-    }
-    if LARGEST < converted_size(edition, book.len(), c) {
-        return 13;
-    }
-    0
+    Ok(book)
 }
 
-// The size of a record in the other edition, by its number.
-fn other_size(edition: Edition, book: &[u8], c: usize, number: usize) -> usize
-    requires { (Convertible edition book.now) × (c ≡ count book.now) × (number < c) }
-    ensures { result ≡ head_size (conversion.other edition) + letter_count_at edition book.now (offset book.now number) }
-{
-    let o = record_start(book, c, number);
-    let place = count_place(edition);
-    head_size(other(edition)) + two_at(book, o + place)
+// A book with bytes that no check of a conversion refuses.
+#[derive(Clone, Copy)]
+struct Conversion<'a> {
+    book: CheckedBook<'a>,
+    ghost passed: { conversion_refusal book.edition book.bytes.now ≡ 0 },
+    ghost some: { 0 < length book.bytes.now },
 }
 
-// The record of a number, written from p on in the other edition.
-fn write_other(edition: Edition, book: &[u8], c: usize, number: usize, out: &mut [u8], p: usize)
-    requires convertible { (Convertible edition book.now) × (c ≡ count book.now) × (number < c) }
-    requires number_in_bounds { p + head_size (conversion.other edition) + letter_count_at edition book.now (offset book.now number) ≤ length out.old }
-    ensures { out.new ≡ sets out.old p (record_of (conversion.other edition)
-        (kind_at book.now (offset book.now number)) (rank_at book.now (offset book.now number))
-        (lanes_at edition book.now (offset book.now number))
-        (letters_at edition book.now (offset book.now number))) }
-{
-    let o = record_start(book, c, number);
-    let place = count_place(edition);
-    let start = o + head_size(edition);
-    let end = start + two_at(book, o + place);
-    let m = lanes_at(edition, book, o);
-    write_record(
-        other(edition),
-        book[o],
-        book[o + 1],
-        m,
-        &book[start..end],
-        out,
-        p,
-    );
-}
-
-// The records, written from byte 0 on. Returns where they end.
-fn write_others(edition: Edition, book: &[u8], c: usize, out: &mut [u8]) -> usize
-    requires { (Convertible edition book.now) × (c ≡ count book.now) × (length (converted edition book.now) ≤ length out.old) }
-    ensures { (out.new ≡ sets out.old 0 (record_bytes (conversion.other edition) (records_from edition book.now c 0)))
-        × (result ≡ length (record_bytes (conversion.other edition) (records_from edition book.now c 0))) }
-{
-    let mut p = 0;
-    let mut i = 0;
-    while i < c {
-        write_other(edition, book, c, i, out, p);
-        p += other_size(edition, book, c, i);
-        i += 1;
+impl<'a> Conversion<'a> {
+    // The size of a record in the other edition, by its number.
+    fn other_size(&self, number: usize) -> usize
+        requires { number < self.now.book.presets }
+        ensures { let ed = self.now.book.edition in let b = self.now.book.bytes.now in
+            result ≡ head_size (conversion.other ed) + letter_count_at ed b (offset b number) }
+    {
+        head_size(other(self.book.edition)) + self.book.record(number).letter_count()
     }
-    p
-}
 
-// The offsets of the converted records, written from p on.
-fn write_offsets(edition: Edition, book: &[u8], c: usize, out: &mut [u8], p: usize)
-    requires { (Convertible edition book.now) × (c ≡ count book.now) × (p + 2 * c ≤ length out.old) }
-    ensures { out.new ≡ sets out.old p (offset_bytes (conversion.other edition) 0 (records_from edition book.now c 0)) }
-{
-    let mut o = 0;
-    let mut i = 0;
-    while i < c {
-        put_two(out, p + 2 * i, o);
-        o += other_size(edition, book, c, i);
-        i += 1;
+    // The record of a number, written from p on in the other edition.
+    fn write_other(&self, number: usize, out: &mut [u8], p: usize)
+        requires in_book { number < self.now.book.presets }
+        requires number_in_bounds { let ed = self.now.book.edition in let b = self.now.book.bytes.now in
+            p + head_size (conversion.other ed) + letter_count_at ed b (offset b number) ≤ length out.old }
+        ensures { let ed = self.now.book.edition in let b = self.now.book.bytes.now in let o = offset b number in
+            out.new ≡ sets out.old p (record_of (conversion.other ed) (kind_at b o) (rank_at b o) (lanes_at ed b o) (letters_at ed b o)) }
+    {
+        let record = self.book.record(number);
+        let contents = Contents {
+            kind: record.kind(),
+            rank: record.rank(),
+            lanes: record.lanes(),
+            letters: record.letters(),
+        };
+        write_record(other(self.book.edition), contents, out, p);
     }
-}
 
-// The new book written to the front of `out`.
-fn write_converted(edition: Edition, book: &[u8], c: usize, out: &mut [u8])
-    requires { (Convertible edition book.now) × (c ≡ count book.now) × (length (converted edition book.now) ≤ length out.old) }
-    ensures { out.new ≡ sets out.old 0 (converted edition book.now) }
-{
-    let p = write_others(edition, book, c, out);
-    write_offsets(edition, book, c, out, p);
-    put_two(out, p + 2 * c, c);
+    // The records, written from byte 0 on. Returns where they end.
+    fn write_others(&self, out: &mut [u8]) -> usize
+        requires { length (converted self.now.book.edition self.now.book.bytes.now) ≤ length out.old }
+        ensures { let ed = self.now.book.edition in let records = records_from ed self.now.book.bytes.now self.now.book.presets 0 in
+            (out.new ≡ sets out.old 0 (record_bytes (conversion.other ed) records)) × (result ≡ length (record_bytes (conversion.other ed) records)) }
+    {
+        let mut p = 0;
+        for i in 0..self.book.presets {
+            self.write_other(i, out, p);
+            p += self.other_size(i);
+        }
+        p
+    }
+
+    // The offsets of the converted records, written from p on.
+    fn write_offsets(&self, out: &mut [u8], p: usize)
+        requires { p + 2 * self.now.book.presets ≤ length out.old }
+        ensures { let ed = self.now.book.edition in let records = records_from ed self.now.book.bytes.now self.now.book.presets 0 in
+            out.new ≡ sets out.old p (offset_bytes (conversion.other ed) 0 records) }
+    {
+        let mut o = 0;
+        for i in 0..self.book.presets {
+            put_two(out, p + 2 * i, o);
+            o += self.other_size(i);
+        }
+    }
+
+    // The new book, written to the front of `out`.
+    fn write_converted(&self, out: &mut [u8])
+        requires { length (converted self.now.book.edition self.now.book.bytes.now) ≤ length out.old }
+        ensures { out.new ≡ sets out.old 0 (converted self.now.book.edition self.now.book.bytes.now) }
+    {
+        let c = self.book.presets;
+        let p = self.write_others(out);
+        self.write_offsets(out, p);
+        put_two(out, p + 2 * c, c);
+    }
 }
 
 // I29: writes the book in the other edition to the front of `out` and returns its length; a book of no bytes stays
 // one. Checks 1 to 3 of the book, then record by record 5, 6, 17, 7, 8 and 18, then 13 and 14.
-pub fn convert(edition: Edition, book: &[u8], out: &mut [u8]) -> Answer
-    ensures value { result ≡ (converting edition book.now out.old).answer }
+pub fn convert(edition: Edition, book: &[u8], out: &mut [u8]) -> Result<usize, Refusal>
+    ensures value { as_answer result ≡ (converting edition book.now out.old).answer }
     ensures out_after { out.new ≡ (converting edition book.now out.old).bytes }
 {
-    let refusal = conversion_refusal(edition, book);
-    if refusal != 0 {
-        return Answer::Refused(refusal);
+    let book = convertible(edition, book)?;
+    if book.bytes.is_empty() {
+        return Ok(0);
     }
-    if book.len() == 0 {
-        return Answer::Length(0);
-    }
-    let c = count_of(book);
-    let size = converted_size(edition, book.len(), c);
+    let size = converted_size(&book);
     if out.len() < size {
-        return Answer::Refused(14);
+        return Err(Refusal::OutputTooShort);
     }
-    write_converted(edition, book, c, out);
-    Answer::Length(size)
+    Conversion { book }.write_converted(out);
+    Ok(size)
 }

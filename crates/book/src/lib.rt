@@ -2,6 +2,7 @@
 // converting. No public function has a `requires`.
 #![tactic(auto)]
 
+mod checked;
 mod converting;
 mod numbers;
 pub mod reader;
@@ -10,7 +11,7 @@ mod records;
 mod runs;
 mod writing;
 
-pub use book_format::{Edition, Opened, Preset, Run, Slot};
+pub use book_format::{Edition, Preset, Run};
 pub use converting::convert;
 pub use reading::{check_book, check_preset, letters};
 pub use runs::{read_presets, read_run};

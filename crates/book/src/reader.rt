@@ -1,22 +1,25 @@
 // An opened book (B14, G16): it keeps its bytes, its edition and what opening them returned, and serves preset
 // calls by number. Each call hands edition and bytes to the call on edition, slice and number, and is right
-// whatever `opened` holds.
+// whatever `opened` holds. I31 names the calls, so they are functions and no methods.
 ghost use Rattle.std.specs.Prelude.{◌≡◌, ◌+◌};
+ghost use Rattle.book_format.specs.answers.Opened.{as_opened};
+ghost use Rattle.book_format.specs.answers.Preset.{as_preset};
 ghost use Rattle.book_format.specs.Calls.{checked_book, checked_preset, letters_of, letters_start};
 
 use crate::reading::{check_book, check_preset, letters};
-use book_format::{Edition, Opened, Preset};
+use book_format::{Edition, Preset};
+use window::Refusal;
 
 #[derive(Clone, Copy)]
 pub struct Reader<'a> {
     pub bytes: &'a [u8],
     pub edition: Edition,
-    pub opened: Opened,
+    pub opened: Result<usize, Refusal>,
 }
 
 // I31: opening makes checks 1 to 3.
 pub fn open<'a>(edition: Edition, bytes: &'a [u8]) -> Reader<'a>
-    ensures { (result.bytes ≡ bytes.entry) × (result.edition ≡ edition) × (result.opened ≡ checked_book edition bytes.now) }
+    ensures { (result.bytes ≡ bytes.entry) × (result.edition ≡ edition) × (as_opened result.opened ≡ checked_book edition bytes.now) }
 {
     let opened = check_book(edition, bytes);
     Reader {
@@ -27,15 +30,15 @@ pub fn open<'a>(edition: Edition, bytes: &'a [u8]) -> Reader<'a>
 }
 
 // I31: what I25 returns on the book's bytes.
-pub fn presets<'a>(r: Reader<'a>) -> Opened
-    ensures { result ≡ checked_book r.entry.edition r.entry.bytes.now }
+pub fn presets<'a>(r: Reader<'a>) -> Result<usize, Refusal>
+    ensures { as_opened result ≡ checked_book r.entry.edition r.entry.bytes.now }
 {
     check_book(r.edition, r.bytes)
 }
 
 // I31: what I26 returns on the book's bytes.
-pub fn preset<'a>(r: Reader<'a>, number: usize) -> Preset
-    ensures { result ≡ checked_preset r.entry.edition r.entry.bytes.now number }
+pub fn preset<'a>(r: Reader<'a>, number: usize) -> Result<Preset, Refusal>
+    ensures { as_preset result ≡ checked_preset r.entry.edition r.entry.bytes.now number }
 {
     check_preset(r.edition, r.bytes, number)
 }

@@ -1,123 +1,96 @@
 // A run of presets, read with one walk over the book: an array of them, or five numbers for each.
-ghost use Rattle.std.specs.Prelude.{◌≡◌, [], ◌∷◌, map, ◌+◌, ◌*◌, ◌≤◌, min, length};
+ghost use Rattle.std.specs.Prelude.{◌≡◌, map, ◌+◌, ◌*◌, ◌≤◌, length};
 ghost use Rattle.std.proofs.lemmas.List.Edits.{sets};
 ghost use Rattle.coxeter.specs.Kinds.{up};
-ghost use Rattle.book_format.specs.Books.{count, book_refusal};
+ghost use Rattle.coxeter.specs.answers.Answer.{as_answer};
+ghost use Rattle.book_format.specs.answers.Opened.{as_opened};
+ghost use Rattle.book_format.specs.answers.Preset.{as_preset};
 ghost use Rattle.book_format.specs.Calls.{checked_book, checked_preset, fields_of, preset_fields, reading_presets};
 
-use crate::numbers::count_of;
-use crate::reading::{LARGEST, book_refusal, numbered_preset, opened_by};
-use book_format::{Edition, Preset, Run, Slot};
-use window::Answer;
+use crate::checked::{CheckedBook, LARGEST};
+use crate::numbers::copy_to;
+use book_format::{Edition, Preset, Run};
+use window::Refusal;
 
-fn put_five(fields: &mut [u64], p: usize, a: u64, b: u64, c: u64, d: u64, e: u64)
-    requires { p + 5 ≤ length fields.old }
-    ensures { fields.new ≡ sets fields.old p (a ∷ b ∷ c ∷ d ∷ e ∷ []) }
-{
-    fields[p] = a;
-    fields[p + 1] = b;
-    fields[p + 2] = c;
-    fields[p + 3] = d;
-    fields[p + 4] = e;
-}
-
-// The numbers of a preset, written from p on.
-fn put_preset(answer: Preset, fields: &mut [u64], p: usize)
-    requires { p + 5 ≤ length fields.old }
-    ensures { fields.new ≡ sets fields.old p (fields_of answer) }
+// The numbers of a preset.
+fn numbers_of(answer: Result<Preset, Refusal>) -> [u64; 5]
+    ensures { result ≡ fields_of (as_preset answer) }
 {
     match answer {
-        Preset::Found {
-            kind,
-            rank,
-            start,
-            length: letter_count,
-        } => put_five(
-            fields,
-            p,
+        Ok(preset) => [
             0,
-            kind as u64,
-            rank as u64,
-            start as u64,
-            letter_count as u64,
-        ),
-        Preset::Refused(refusal) => put_five(fields, p, refusal as u64, 0, 0, 0, 0),
+            preset.group.kind.number() as u64,
+            preset.group.rank as u64,
+            preset.start as u64,
+            preset.length as u64,
+        ],
+        Err(refusal) => [refusal.number() as u64, 0, 0, 0, 0],
     }
 }
 
 // The numbers of n presets from preset `first` on.
-fn put_run(edition: Edition, book: &[u8], first: usize, n: usize, fields: &mut [u64])
-    requires { (book_refusal edition book.now ≡ 0) × (first + n ≤ count book.now) × (5 * n ≤ length fields.old) }
-    ensures { fields.new ≡ sets fields.old 0 (preset_fields edition book.now n first) }
+fn put_run(book: &CheckedBook, first: usize, n: usize, fields: &mut [u64])
+    requires { (first + n ≤ book.now.presets) × (5 * n ≤ length fields.old) }
+    ensures { fields.new ≡ sets fields.old 0 (preset_fields book.now.edition book.now.bytes.now n first) }
 {
-    let mut i = 0;
-    while i < n {
-        put_preset(numbered_preset(edition, book, 0, first + i), fields, 5 * i);
-        i += 1;
+    for i in 0..n {
+        copy_to(&numbers_of(book.preset(first + i)), fields, 5 * i);
     }
 }
 
-fn smaller_of(a: usize, b: usize) -> usize
-    ensures { result ≡ min a b }
+// The 128 presets from preset `start` on.
+fn presets_from(book: &CheckedBook, start: usize) -> [Result<Preset, Refusal>; 128]
+    requires { start ≤ 65535 }
+    ensures { map as_preset result ≡ map (checked_preset book.now.edition book.now.bytes.now) (up start 128) }
 {
-    if a < b {
-        return a;
+    let mut presets = [Err(Refusal::NoSuchPreset); 128];
+    for (i, preset) in presets.iter_mut().enumerate() {
+        *preset = book.preset(start + i);
     }
-    b
-}
-
-// Room for 128 presets.
-fn slots_128() -> [Slot; 128]
-    ensures { 128 ≡ length result }
-{
-    let preset = Preset::Refused(0);
-    let slot = Slot { preset };
-    [slot; 128]
+    presets
 }
 
 // I35: what `check_book` returns, and the 128 presets from number `first` on, each as `check_preset` returns it:
 // refused 4 past the last one. Checks 1 to 3 are made once for all. No book has the preset 65,535, so that larger
 // numbers need not be told apart.
 pub fn read_run(edition: Edition, book: &[u8], first: usize) -> Run
-    ensures { (result.opened ≡ checked_book edition book.now) × (result.first ≡ first)
-        × (map (λ s. s.preset) result.presets ≡ map (checked_preset edition book.now) (up first 128)) }
+    ensures { (as_opened result.opened ≡ checked_book edition book.now) × (result.first ≡ first)
+        × (map as_preset result.presets ≡ map (checked_preset edition book.now) (up first 128)) }
 {
-    let refusal = book_refusal(edition, book);
-    let opened = opened_by(edition, book, refusal);
-    let start = smaller_of(first, LARGEST);
-    let mut presets = slots_128();
-    let mut i = 0;
-    while i < 128 {
-        let preset = numbered_preset(edition, book, refusal, start + i);
-        presets[i] = Slot { preset };
-        i += 1;
-    }
-    Run {
-        opened,
-        first,
-        presets,
+    match CheckedBook::open(edition, book) {
+        Ok(book) => Run {
+            opened: Ok(book.presets),
+            first,
+            presets: presets_from(&book, first.min(LARGEST)),
+        },
+        Err(refusal) => Run {
+            opened: Err(refusal),
+            first,
+            presets: [Err(refusal); 128],
+        },
     }
 }
 
 // I30: reads the presets from number `first` on, as many as exist and fit: for each its refusal or 0, its
 // kind, its rank, where its letters begin and how many they are. Returns how many presets were written. Checks 1 to
 // 3, 4 of the first, and 14 if not one has room.
-pub fn read_presets(edition: Edition, book: &[u8], first: usize, fields: &mut [u64]) -> Answer
-    ensures { (result ≡ (reading_presets edition book.now first fields.old).answer)
+pub fn read_presets(
+    edition: Edition,
+    book: &[u8],
+    first: usize,
+    fields: &mut [u64],
+) -> Result<usize, Refusal>
+    ensures { (as_answer result ≡ (reading_presets edition book.now first fields.old).answer)
         × (fields.new ≡ (reading_presets edition book.now first fields.old).bytes) }
 {
-    let refusal = book_refusal(edition, book);
-    if refusal != 0 {
-        return Answer::Refused(refusal);
-    }
-    let c = count_of(book);
-    if c <= first {
-        return Answer::Refused(4);
+    let book = CheckedBook::open(edition, book)?;
+    if book.presets <= first {
+        return Err(Refusal::NoSuchPreset);
     }
     if fields.len() < 5 {
-        return Answer::Refused(14);
+        return Err(Refusal::OutputTooShort);
     }
-    let n = smaller_of(c - first, fields.len() / 5);
-    put_run(edition, book, first, n, fields);
-    Answer::Length(n)
+    let n = (book.presets - first).min(fields.len() / 5);
+    put_run(&book, first, n, fields);
+    Ok(n)
 }

@@ -4,7 +4,8 @@ ghost use Rattle.std.specs.Prelude.{◌+◌, ◌≤◌, length};
 ghost use Rattle.coxeter.proofs.Lists.{Stored};
 ghost use Rattle.listing_text.specs.Text as text;
 
-// A number in decimal: the digits before the last one first.
+// A number in decimal: the digits before the last one first. By `itoa`, with a buffer of its own for each number, a
+// listing takes a tenth longer.
 pub(crate) fn put_decimal(out: &mut [u8], at: usize, x: usize) -> usize
     requires { at + length (text.decimal x) ≤ length out.old }
     ensures { Stored out.old at (text.decimal x) out.new result }
@@ -42,26 +43,24 @@ pub(crate) fn put_letters(out: &mut [u8], at: usize, word: &[u8]) -> usize
     ensures { Stored out.old at (text.letters word.now) out.new result }
 {
     let mut r = at;
-    let mut i = 0;
-    while i < word.len() {
-        r = put_spaced(out, r, word[i] as usize);
-        i += 1;
+    for letter in word {
+        r = put_spaced(out, r, *letter as usize);
     }
     r
 }
 
-// An entry after one space. No byte is negated before its range is known (Q10).
+// An entry after one space. -128 has the size 128 (Q10).
 fn put_entry(out: &mut [u8], at: usize, e: i8) -> usize
     requires { at + length (text.entry e) ≤ length out.old }
     ensures { Stored out.old at (text.entry e) out.new result }
 {
+    let size = e.unsigned_abs() as usize;
     if e < 0 {
-        let below = -1 - e;
         out[at] = b' ';
         out[at + 1] = b'-';
-        return put_decimal(out, at + 2, below as usize + 1);
+        return put_decimal(out, at + 2, size);
     }
-    put_spaced(out, at, e as usize)
+    put_spaced(out, at, size)
 }
 
 // Each entry after one space.
@@ -70,10 +69,8 @@ pub(crate) fn put_entries(out: &mut [u8], at: usize, window: &[i8]) -> usize
     ensures { Stored out.old at (text.entries window.now) out.new result }
 {
     let mut r = at;
-    let mut i = 0;
-    while i < window.len() {
-        r = put_entry(out, r, window[i]);
-        i += 1;
+    for e in window {
+        r = put_entry(out, r, *e);
     }
     r
 }

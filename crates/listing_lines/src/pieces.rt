@@ -1,9 +1,13 @@
 // The next piece of a listing. The book is opened once for each run of its presets. A line is made in a buffer of its
 // own, where every line has room, and copied if it fits whole.
-ghost use Rattle.std.specs.Prelude.{◌≡◌, ◌-◌, ◌≤◌, length};
+ghost use Rattle.std.specs.Prelude.{◌≡◌, ◌-◌, ◌≤◌, length, map};
+ghost use Rattle.coxeter.specs.Kinds.{up};
+ghost use Rattle.coxeter.specs.answers.Answer.{as_answer};
 ghost use Rattle.coxeter.specs.Calls.{Yields, writes};
 ghost use Rattle.coxeter.proofs.Lists.{Stored};
 ghost use Rattle.book_format.specs.declared.Edition.{Edition};
+ghost use Rattle.book_format.specs.answers.Opened.{as_opened};
+ghost use Rattle.book_format.specs.answers.Preset.{as_preset};
 ghost use Rattle.book_format.specs.Calls.{checked_preset};
 ghost use Rattle.listing_text.specs.Text.{refused_book_line};
 ghost use Rattle.listing_text.specs.Calls.{line_count_by, first_line, next_piece};
@@ -12,58 +16,42 @@ ghost use Rattle.listing_text.proofs.Answered.{line_from};
 use crate::lines::put_labelled;
 use crate::numbers::put_bytes;
 use crate::presets::put_preset;
-use book::{Edition, Opened, Preset, read_run};
+use book::{Edition, Preset, Run, read_run};
 use listing_text::Piece;
-use window::Answer;
+use window::Refusal;
 
 // How many lines the listing has, by what opening the book returned.
-fn line_count(opened: Opened) -> usize
-    requires { line_count_by opened ≤ 65536 }
-    ensures { result ≡ line_count_by opened }
+#[tactic(auto, unfolding(listing_text::specs::Calls::line_count_by))]
+fn line_count(opened: Result<usize, Refusal>) -> usize
+    requires { line_count_by (as_opened opened) ≤ 65536 }
+    ensures { result ≡ line_count_by (as_opened opened) }
 {
-    match opened {
-        Opened::Presets(c) => c + 1,
-        Opened::Refused(_) => 1,
-    }
-}
-
-// How many lines there are from line `first` on.
-fn lines_from(opened: Opened, first: usize) -> usize
-    requires { line_count_by opened ≤ 65536 }
-    ensures { result ≡ line_count_by opened - first }
-{
-    let count = line_count(opened);
-    if count < first {
-        return 0;
-    }
-    count - first
+    opened.map_or(1, |count| count + 1)
 }
 
 // Line 0: `presets 2` or `book refused 1`.
-fn put_first(opened: Opened, out: &mut [u8]) -> usize
-    requires { length (first_line opened) ≤ length out.old }
-    ensures { Stored out.old 0 (first_line opened) out.new result }
+#[tactic(auto, unfolding(listing_text::specs::Calls::first_line, listing_text::specs::Text::count_line, listing_text::specs::Text::refused_book_line, listing_text::specs::Text::refused))]
+fn put_first(opened: Result<usize, Refusal>, out: &mut [u8]) -> usize
+    requires { length (first_line (as_opened opened)) ≤ length out.old }
+    ensures { Stored out.old 0 (first_line (as_opened opened)) out.new result }
 {
     match opened {
-        Opened::Presets(count) => put_labelled(out, 0, b"presets ", count),
-        Opened::Refused(refusal) => put_labelled(out, 0, b"book refused ", refusal as usize),
+        Ok(count) => put_labelled(out, 0, b"presets ", count),
+        Err(refusal) => put_labelled(out, 0, b"book refused ", refusal.number() as usize),
     }
-}
-
-// The number of the preset of line i; that of line 0, which has none, is 0.
-fn number_of(i: usize) -> usize
-    ensures { result ≡ i - 1 }
-{
-    if i == 0 {
-        return 0;
-    }
-    i - 1
 }
 
 // Line i, by what opening the book and reading the preset of the line returned, in whichever edition.
-fn put_nth(book: &[u8], opened: Opened, i: usize, answer: Preset, out: &mut [u8]) -> usize
-    requires { (ed : Edition) × ((answer ≡ checked_preset ed book.now (i - 1)) × (length (line_from book.now opened i answer) ≤ length out.old)) }
-    ensures { Stored out.old 0 (line_from book.now opened i answer) out.new result }
+fn put_nth(
+    book: &[u8],
+    opened: Result<usize, Refusal>,
+    i: usize,
+    answer: Result<Preset, Refusal>,
+    out: &mut [u8],
+) -> usize
+    requires { (ed : Edition) × ((as_preset answer ≡ checked_preset ed book.now (i - 1))
+        × (length (line_from book.now (as_opened opened) i (as_preset answer)) ≤ length out.old)) }
+    ensures { Stored out.old 0 (line_from book.now (as_opened opened) i (as_preset answer)) out.new result }
 {
     if i == 0 {
         return put_first(opened, out);
@@ -71,17 +59,33 @@ fn put_nth(book: &[u8], opened: Opened, i: usize, answer: Preset, out: &mut [u8]
     put_preset(book, i - 1, answer, out)
 }
 
+// The preset of line i; line 0, which has none, gets that of line 1. A preset behind the run in hand is read with a run
+// of its own, which is then in hand.
+fn preset_of(run: &mut Run, edition: Edition, book: &[u8], i: usize) -> Result<Preset, Refusal>
+    requires begins { run.old.first ≤ i - 1 }
+    requires presets { map as_preset run.old.presets ≡ map (checked_preset edition book.now) (up run.old.first 128) }
+    ensures begins { run.new.first ≤ i - 1 }
+    ensures presets { map as_preset run.new.presets ≡ map (checked_preset edition book.now) (up run.new.first 128) }
+    ensures answer { as_preset result ≡ checked_preset edition book.now (i - 1) }
+{
+    let number = i.saturating_sub(1);
+    if 128 <= number - run.first {
+        *run = read_run(edition, book, number);
+    }
+    run.presets[number - run.first]
+}
+
 // P11: writes the line of a refused book, such as `book refused 13`, to the front of `out` and returns its length. Check
 // 14.
-pub fn refused_book(refusal: u8, out: &mut [u8]) -> Answer
-    ensures { Yields (writes 0 (refused_book_line refusal) out.old) result out.new }
+pub fn refused_book(refusal: u8, out: &mut [u8]) -> Result<usize, Refusal>
+    ensures { Yields (writes 0 (refused_book_line refusal) out.old) (as_answer result) out.new }
 {
     let mut line = io::buffer();
-    let size = put_first(Opened::Refused(refusal), &mut line);
+    let size = put_labelled(&mut line, 0, b"book refused ", refusal as usize);
     if out.len() < size {
-        return Answer::Refused(14);
+        return Err(Refusal::OutputTooShort);
     }
-    Answer::Length(put_bytes(out, 0, &line[..size]))
+    Ok(put_bytes(out, 0, &line[..size]))
 }
 
 // I32: the next piece of the listing of a book, from line `first` on: as many lines as fit whole in the buffer, at
@@ -92,26 +96,19 @@ pub fn next_piece(edition: Edition, book: &[u8], first: usize, out: &mut [u8]) -
         × (out.new ≡ (next_piece edition book.now first out.old).bytes) }
 {
     let mut line = io::large_buffer();
-    let mut run = read_run(edition, book, number_of(first));
+    let mut run = read_run(edition, book, first.saturating_sub(1));
     let opened = run.opened;
-    let mut next = first;
+    let count = line_count(opened);
     let mut end = 0;
-    let mut left = lines_from(opened, first);
-    while 0 < left {
-        let number = number_of(next);
-        if run.first + 128 <= number {
-            run = read_run(edition, book, number);
-        }
-        let start = run.first;
-        let slot = run.presets[number - start];
-        let answer = slot.preset;
+    for next in first..count {
+        let answer = preset_of(&mut run, edition, book, next);
         let size = put_nth(book, opened, next, answer, &mut line);
         if out.len() - end < size {
+            let left = count - next;
             return Piece { next, end, left };
         }
         end = put_bytes(out, end, &line[..size]);
-        next += 1;
-        left -= 1;
     }
-    Piece { next, end, left }
+    let next = first.max(count);
+    Piece { next, end, left: 0 }
 }

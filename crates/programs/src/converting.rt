@@ -3,16 +3,13 @@ use crate::streams::{input_ended, print, read_full};
 use book::Edition;
 use listing_lines::refused_book;
 use std::io::{Eprint, Input, Print};
-use window::Answer;
+use window::Refusal;
 
-fn print_refused<R: Print + Eprint>(rt: &R, refusal: u8) {
+fn print_refused<R: Print + Eprint>(rt: &R, refusal: Refusal) {
     let mut line = io::buffer();
-    match refused_book(refusal, &mut line) {
-        Answer::Length(l) => {
-            print(rt, &line[..l]);
-        }
-        // Not reached: the buffer has room for the line.
-        Answer::Refused(_) => {}
+    // The buffer has room for the line, which is never refused.
+    if let Ok(l) = refused_book(refusal.number(), &mut line) {
+        print(rt, &line[..l]);
     }
 }
 
@@ -20,10 +17,10 @@ fn print_refused<R: Print + Eprint>(rt: &R, refusal: u8) {
 fn print_converted<R: Print + Eprint>(rt: &R, edition: Edition, book: &[u8]) {
     let mut out = io::large_buffer();
     match book::convert(edition, book, &mut out) {
-        Answer::Length(l) => {
+        Ok(l) => {
             print(rt, &out[..l]);
         }
-        Answer::Refused(refusal) => print_refused(rt, refusal),
+        Err(refusal) => print_refused(rt, refusal),
     }
 }
 

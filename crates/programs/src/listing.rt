@@ -9,18 +9,13 @@ use std::io::{Eprint, Input, Print, Read};
 fn print_book<R: Print + Eprint>(rt: &R, edition: Edition, book: &[u8]) {
     let mut out = io::large_buffer();
     let mut first = 0;
+    // A loop, since only a piece says where the next one begins.
     loop {
         let piece = next_piece(edition, book, first, &mut out);
-        let next = piece.next;
-        let end = piece.end;
-        let left = piece.left;
-        if !print(rt, &out[..end]) {
+        if !print(rt, &out[..piece.end]) || piece.left == 0 {
             return;
         }
-        if left == 0 {
-            return;
-        }
-        first = next;
+        first = piece.next;
     }
 }
 

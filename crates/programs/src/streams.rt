@@ -10,15 +10,11 @@ pub(crate) fn read_full<R: Read>(reader: &mut R, buffer: &mut [u8]) -> usize
     ensures { IsPrefixLen result buffer.new }
 {
     let mut done = 0;
+    // A `while`, since only a read says how many bytes it gave.
     while done < buffer.len() {
         match reader.read(&mut buffer[done..]) {
-            Ok(n) => {
-                if n == 0 {
-                    break;
-                }
-                done += n;
-            }
-            Err(_) => break,
+            Ok(0) | Err(_) => break,
+            Ok(n) => done += n,
         }
     }
     done

@@ -5,50 +5,70 @@ use mathlib.Core.Path.{◌≡◌, refl}
 use mathlib.Core.List.{List}
 use Prim.Native.Nat.{ℕ, ◌≤◌, ◌<◌}
 use lib.ListN.{length}
-use borrow.Author.Tests.{eq-eqb, ne_eqb, lt-ltb, le-ltb}
+use borrow.Author.Tests.{ne_eqb, lt-ltb, le-ltb}
 use Rattle.coxeter.specs.answers.Answer as answer
+use Rattle.std.specs.Prelude.{Result, Ok, Err, IsErr, IsErrAnd}
+use Rattle.std.specs.Borrow.{Bor}
 use Rattle.coxeter.specs.Kinds.{kind_of}
+use Rattle.coxeter.specs.declared.Word.{Word}
+use Rattle.coxeter.specs.declared.Refusal.{Refusal}
+use Rattle.coxeter.specs.Refusals.{number}
+use Rattle.coxeter.specs.answers.Answer.{as_answer}
+use Rattle.traces.specs.declared.Rewriting.{Rewriting}
 use Rattle.coxeter.specs.Checks.{◌then◌, too_short, rank_refusal, word_refusal}
 use Rattle.coxeter.specs.Calls.{front, written}
 use Rattle.coxeter.proofs.Acceptance.{two_accepted}
+use Rattle.coxeter.proofs.Groups.{number_positive}
 use Rattle.coxeter.proofs.Outcomes.{answer_refused, answer_length}
 use Rattle.rules.specs.Runs.{AcceptedWord}
-use Rattle.traces.specs.answers.ToEnd.{Ended, Refused}
+use Rattle.traces.specs.answers.ToEnd.{Ended, Refused, as_to_end}
 use Rattle.traces.specs.Traces.{trace, families_of, places_of, lengths_of, too_few_places, to_end_of, traced_by, rewriting_to_end, number_of_steps, TraceYields}
 
--- r is the refusal that was computed
-module _ (k n : ℕ) (u : List ℕ) {r : ℕ} (e : r ≡ (rank_refusal k n then word_refusal n u)) where
-  pub accepted : r ≡ 0 → AcceptedWord k n u
-  accepted z = let a = two_accepted (rank_refusal k n) (word_refusal n u) r e z in record { rank = a.0; word = a.1 }
+-- a word that was handed on is the one that was checked
+pub checked_trace : (w : Word) (k n : ℕ) (u : Bor (List ℕ)) → (w.group.kind ≡ kind_of k) × (w.group.rank ≡ n) × (w.letters ≡ u)
+    → trace w.group.kind w.group.rank w.letters.now ≡ trace (kind_of k) n u.now
+checked_trace w k n u e = rw (e.0, e.1, e.2) refl
 
-  pub steps_refused : (r ≡ 0 → ⊥) → answer.Refused r ≡ number_of_steps k n u
-  unfolding number_of_steps
-  steps_refused f = answer_refused (rank_refusal k n then word_refusal n u) r (length (trace (kind_of k) n u).lines) e f
+module _ (k n : ℕ) (u : List ℕ) where
+  pub accepted : 0 ≡ (rank_refusal k n then word_refusal n u) → AcceptedWord k n u
+  accepted e = let a = two_accepted (rank_refusal k n) (word_refusal n u) 0 e refl in record { rank = a.0; word = a.1 }
 
-  pub steps_counted : (steps : ℕ) → r ≡ 0 → steps ≡ length (trace (kind_of k) n u).lines → answer.Length steps ≡ number_of_steps k n u
+  -- q is the refusal that `?` hands on
+  module _ (q : Refusal) (e : number q ≡ (rank_refusal k n then word_refusal n u)) where
+    pub steps_refused : (r : Result ℕ Refusal) → IsErr r × IsErrAnd r (λ (x : Refusal). x ≡ q) → as_answer r ≡ number_of_steps k n u
+    unfolding number_of_steps
+    steps_refused (Ok x) h = absurd h.1
+    steps_refused (Err x) h =
+        rw h.1 (answer_refused (rank_refusal k n then word_refusal n u) (number q) (length (trace (kind_of k) n u).lines) e (number_positive q))
+
+    pub traced_refused : (families places lengths out : List ℕ) (r : Result Rewriting Refusal) → IsErr r × IsErrAnd r (λ (x : Refusal). x ≡ q)
+        → TraceYields (rewriting_to_end k n u families places lengths out) (as_to_end r) families places lengths out
+    unfolding rewriting_to_end traced_by to_end_of written
+    traced_refused families places lengths out (Ok x) h = absurd h.1
+    traced_refused families places lengths out (Err x) h =
+        rw h.1 (rw (← e, ne_eqb (number q) 0 (number_positive q)) (rw (ne_eqb (number q) 0 (number_positive q)) (refl, refl, refl, refl, refl)))
+
+  pub steps_counted : (steps : ℕ) → 0 ≡ (rank_refusal k n then word_refusal n u) → steps ≡ length (trace (kind_of k) n u).lines
+      → answer.Length steps ≡ number_of_steps k n u
   unfolding number_of_steps
-  steps_counted steps z l = answer_length (rank_refusal k n then word_refusal n u) r (length (trace (kind_of k) n u).lines) steps e z l
+  steps_counted steps e l = answer_length (rank_refusal k n then word_refusal n u) 0 (length (trace (kind_of k) n u).lines) steps e refl l
 
   module _ (families places lengths out : List ℕ) where
     -- the call answers that it is refused, and leaves lists and output
     abbrev RefusedWith : ℕ → Type 0
     RefusedWith q = TraceYields (rewriting_to_end k n u families places lengths out) (Refused q) families places lengths out
 
-    pub traced_refused : (r ≡ 0 → ⊥) → RefusedWith r
-    unfolding rewriting_to_end traced_by to_end_of written
-    traced_refused f = rw (← e, ne_eqb r 0 f) (rw (ne_eqb r 0 f) (refl, refl, refl, refl, refl))
-
-    module _ {steps : ℕ} (z : r ≡ 0) (l : steps ≡ length (trace (kind_of k) n u).lines) where
+    module _ {steps : ℕ} (e : 0 ≡ (rank_refusal k n then word_refusal n u)) (l : steps ≡ length (trace (kind_of k) n u).lines) where
       -- check 15
       pub families_short : length families < steps → RefusedWith 15
       unfolding rewriting_to_end traced_by to_end_of written too_few_places too_short
-      families_short a = rw (← e, eq-eqb r 0 z, ← l, lt-ltb (length families) steps a) (refl, refl, refl, refl, refl)
+      families_short a = rw (← e, ← l, lt-ltb (length families) steps a) (refl, refl, refl, refl, refl)
 
       module _ (f : steps ≤ length families) where
         pub places_short : length places < steps → RefusedWith 15
         unfolding rewriting_to_end traced_by to_end_of written too_few_places too_short
         places_short a =
-            rw (← e, eq-eqb r 0 z, ← l, le-ltb (length families) steps f, lt-ltb (length places) steps a) (refl, refl, refl, refl, refl)
+            rw (← e, ← l, le-ltb (length families) steps f, lt-ltb (length places) steps a) (refl, refl, refl, refl, refl)
 
         module _ (p : steps ≤ length places) where
           pub lengths_short : length lengths < steps → RefusedWith 15
@@ -56,7 +76,6 @@ module _ (k n : ℕ) (u : List ℕ) {r : ℕ} (e : r ≡ (rank_refusal k n then 
           lengths_short a =
               rw (
                 ← e,
-                eq-eqb r 0 z,
                 ← l,
                 le-ltb (length families) steps f,
                 le-ltb (length places) steps p,
@@ -71,7 +90,6 @@ module _ (k n : ℕ) (u : List ℕ) {r : ℕ} (e : r ≡ (rank_refusal k n then 
             out_short a =
                 rw (
                   ← e,
-                  eq-eqb r 0 z,
                   ← l,
                   le-ltb (length families) steps f,
                   le-ltb (length places) steps p,
@@ -90,7 +108,6 @@ module _ (k n : ℕ) (u : List ℕ) {r : ℕ} (e : r ≡ (rank_refusal k n then 
             traced_done a b c d o =
                 rw (
                   ← e,
-                  eq-eqb r 0 z,
                   ← l,
                   le-ltb (length families) steps f,
                   le-ltb (length places) steps p,

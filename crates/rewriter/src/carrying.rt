@@ -1,24 +1,74 @@
 // A letter read behind a normal form is carried to the left by rules, in place, and each step is noted in three
 // lists. Letters that commute are passed one by one; where none does, the rule that ends with the letter carries
 // it past a block, or deletes it with an equal one.
-ghost use Rattle.std.specs.Prelude.{◌≡◌, true, false, ◌∷◌, ◌++◌, ℕ, suc, ◌+◌, ◌-◌, ◌≤◌, ◌<◌, min, length, get_or, take, drop, set};
-ghost use Rattle.coxeter.specs.Kinds.{kind_of};
+ghost use Rattle.std.specs.Prelude.{◌≡◌, true, false, ◌∷◌, ◌++◌, ℕ, suc, ◌+◌, ◌-◌, ◌≤◌, ◌<◌, min, length, get_or, take, drop, set, MatchOption};
 ghost use Rattle.coxeter.specs.NormalForm.{levels};
 ghost use Rattle.coxeter.specs.Checks.{WordOf};
 ghost use Rattle.traces.proofs.TwoLetters.{commuting};
 ghost use Rattle.traces.proofs.Tracing.{stores, Ready, Carried, Inserted};
 
-use crate::ending::{Ending, ending_rule};
+use crate::ending::ending_rule;
 use crate::search::levels_of;
+use window::Group;
 
-// How many steps were made, and how many letters the word has then.
-#[derive(Clone, Copy)]
-pub(crate) struct Count {
-    pub(crate) steps: usize,
-    pub(crate) size: usize,
+// The steps that were made, each noted by its family, its place and the length left, as far as the lists go. They are
+// three lists and not one of structs because the C interface hands them in so.
+#[derive(Drop)]
+pub(crate) struct Steps<'a> {
+    pub(crate) made: usize,
+    pub(crate) families: &'a mut [u8],
+    pub(crate) places: &'a mut [u16],
+    pub(crate) lengths: &'a mut [u16],
+    ghost equally_long: { (length places.now ≡ length families.now) × (length lengths.now ≡ length families.now) },
+}
+
+impl Steps<'_> {
+    // One more step.
+    fn note(&mut self, family: u8, place: usize, left: usize)
+        requires few { self.old.made ≤ 8386560 }
+        requires place_bound { (place ≤ 4096) × (left ≤ 4096) }
+        ensures same_lists { (self.new.families.ghost_name ≡ self.old.families.ghost_name)
+            × (self.new.places.ghost_name ≡ self.old.places.ghost_name)
+            × (self.new.lengths.ghost_name ≡ self.old.lengths.ghost_name) }
+        ensures noted { (self.new.made ≡ self.old.made + 1)
+            × (self.new.families.now ≡ set self.old.families.now self.old.made family)
+            × (self.new.places.now ≡ set self.old.places.now self.old.made place)
+            × (self.new.lengths.now ≡ set self.old.lengths.now self.old.made left) }
+    {
+        let s = self.made;
+        if s < self.families.len() {
+            self.families[s] = family;
+            self.places[s] = place as u16;
+            self.lengths[s] = left as u16;
+        }
+        self.made += 1;
+    }
+
+    // The steps by which a letter passed m others, from place q on.
+    fn note_passed(&mut self, m: usize, q: usize, left: usize)
+        requires few { self.old.made ≤ 8386560 }
+        requires m_le_q { (m ≤ q) × (q ≤ 4096) × (left ≤ 4096) }
+        ensures same_lists { (self.new.families.ghost_name ≡ self.old.families.ghost_name)
+            × (self.new.places.ghost_name ≡ self.old.places.ghost_name)
+            × (self.new.lengths.ghost_name ≡ self.old.lengths.ghost_name) }
+        ensures noted { (self.new.made ≡ self.old.made + m)
+            × (self.new.families.now ≡ stores (λ i. 2) self.old.families.now self.old.made m)
+            × (self.new.places.now ≡ stores (λ i. q - suc i) self.old.places.now self.old.made m)
+            × (self.new.lengths.now ≡ stores (λ i. left) self.old.lengths.now self.old.made m) }
+    {
+        let s = self.made;
+        let end = m.min(self.families.len().saturating_sub(s));
+        for i in 0..end {
+            self.families[s + i] = 2;
+            self.places[s + i] = (q - 1 - i) as u16;
+            self.lengths[s + i] = left as u16;
+        }
+        self.made = s + m;
+    }
 }
 
 // Whether l x is a left side of family 2: l < x, and the two commute. At step `levels` the way of a block turns.
+#[tactic(auto, unfolding(traces::proofs::TwoLetters::commuting))]
 fn commutes(rank: u8, levels: u8, l: u8, x: u8) -> bool
     requires { l < 255 }
     ensures { result ≡ commuting rank levels l x }
@@ -32,116 +82,41 @@ fn commutes(rank: u8, levels: u8, l: u8, x: u8) -> bool
     l + 1 < x
 }
 
-// Step s as an entry of each list; past their ends nothing is noted.
-fn note(
-    families: &mut [u8],
-    places: &mut [u16],
-    lengths: &mut [u16],
-    s: usize,
-    family: u8,
-    place: usize,
-    left: usize,
-)
-    requires places_len { (length places.old ≡ length families.old) × (length lengths.old ≡ length families.old) }
-    requires place_bound { (place ≤ 4096) × (left ≤ 4096) }
-    ensures { (families.new ≡ set families.old s family)
-        × (places.new ≡ set places.old s place)
-        × (lengths.new ≡ set lengths.old s left) }
-{
-    if s < families.len() {
-        families[s] = family;
-        places[s] = place as u16;
-        lengths[s] = left as u16;
-    }
-}
-
-// How many of m entries from s on a list of that size has room for.
-fn room_for(size: usize, s: usize, m: usize) -> usize
-    ensures { result ≡ min m (size - s) }
-{
-    if size <= s {
-        return 0;
-    }
-    if size - s < m {
-        return size - s;
-    }
-    m
-}
-
-// The steps by which a letter passed m others, from place q on, noted from step s on.
-fn note_passed(
-    families: &mut [u8],
-    places: &mut [u16],
-    lengths: &mut [u16],
-    s: usize,
-    m: usize,
-    q: usize,
-    left: usize,
-)
-    requires places_len { (length places.old ≡ length families.old) × (length lengths.old ≡ length families.old) }
-    requires m_le_q { (m ≤ q) × (q ≤ 4096) × (left ≤ 4096) }
-    ensures { (families.new ≡ stores (λ i. 2) families.old s m)
-        × (places.new ≡ stores (λ i. q - suc i) places.old s m)
-        × (lengths.new ≡ stores (λ i. left) lengths.old s m) }
-{
-    if m == 0 {
-        return;
-    }
-    let end = room_for(families.len(), s, m);
-    let mut i = 0;
-    while i < end {
-        families[s + i] = 2;
-        places[s + i] = (q - 1 - i) as u16;
-        lengths[s + i] = left as u16;
-        i += 1;
-    }
-}
-
 // The letter at q put before those that it commutes with, as far as it goes. Returns where it stands then.
-fn shift(rank: u8, levels: u8, word: &mut [u8], q: usize) -> usize
-    requires { (rank ≤ 64) × WordOf rank word.old × (q < length word.old) }
+fn shift(group: Group, word: &mut [u8], q: usize) -> usize
+    requires { WordOf group.rank word.old × (q < length word.old) }
     ensures { (result ≤ q) × (word.new ≡ take result word.old
         ++ ((get_or word.old q 0 ∷ take (q - result) (drop result word.old)) ++ drop (suc q) word.old))
-        × ((j : ℕ) → result ≤ j → j < q → commuting rank levels (get_or word.old j 0) (get_or word.old q 0) ≡ true)
-        × (1 ≤ result → commuting rank levels (get_or word.old (result - 1) 0) (get_or word.old q 0) ≡ false) }
+        × ((j : ℕ) → result ≤ j → j < q → commuting group.rank (levels group.kind group.rank) (get_or word.old j 0) (get_or word.old q 0) ≡ true)
+        × (1 ≤ result → commuting group.rank (levels group.kind group.rank) (get_or word.old (result - 1) 0) (get_or word.old q 0) ≡ false) }
 {
+    let levels = levels_of(group);
     let x = word[q];
-    let mut t = q;
-    while 0 < t {
-        let l = word[t - 1];
-        if commutes(rank, levels, l, x) {
-            word[t] = l;
-            t -= 1;
-        } else {
-            word[t] = x;
-            return t;
+    for t in (0..q).rev() {
+        let l = word[t];
+        if !commutes(group.rank, levels, l, x) {
+            word[t + 1] = x;
+            return t + 1;
         }
+        word[t + 1] = l;
     }
-    word[t] = x;
-    t
+    word[0] = x;
+    0
 }
 
 // The letter at q passes letters by family 2, one step each, as far as it goes. Returns where it stands then.
-fn pass(
-    kind: u8,
-    rank: u8,
-    rest: &[u8],
-    s: usize,
-    families: &mut [u8],
-    places: &mut [u16],
-    lengths: &mut [u16],
-    word: &mut [u8],
-    q: usize,
-) -> usize
-    requires { Ready (kind_of kind) rank rest.now s families.old places.old lengths.old word.old q }
-    ensures { (result ≤ q) × Carried (kind_of kind) rank rest.now s families.old places.old lengths.old
-        word.old (s + (q - result)) families.new places.new lengths.new word.new result
-        × (1 ≤ result → commuting rank (levels (kind_of kind) rank) (get_or word.new (result - 1) 0) (get_or word.new result 0) ≡ false) }
+fn pass(group: Group, rest: &[u8], steps: &mut Steps<'_>, word: &mut [u8], q: usize) -> usize
+    requires { Ready group.kind group.rank rest.now steps.old.made steps.old.families.now steps.old.places.now steps.old.lengths.now word.old q }
+    ensures same_lists { (steps.new.families.ghost_name ≡ steps.old.families.ghost_name)
+        × (steps.new.places.ghost_name ≡ steps.old.places.ghost_name)
+        × (steps.new.lengths.ghost_name ≡ steps.old.lengths.ghost_name) }
+    ensures carried { (result ≤ q) × Carried group.kind group.rank rest.now steps.old.made steps.old.families.now steps.old.places.now steps.old.lengths.now
+        word.old steps.new.made steps.new.families.now steps.new.places.now steps.new.lengths.now word.new result
+        × (1 ≤ result → commuting group.rank (levels group.kind group.rank) (get_or word.new (result - 1) 0) (get_or word.new result 0) ≡ false) }
 {
-    let levels = levels_of(kind, rank);
     let left = word.len() + rest.len();
-    let t = shift(rank, levels, word, q);
-    note_passed(families, places, lengths, s, q - t, q, left);
+    let t = shift(group, word, q);
+    steps.note_passed(q - t, q, left);
     t
 }
 
@@ -151,11 +126,7 @@ fn carry(word: &mut [u8], place: usize, q: usize, first: u8)
     ensures { word.new ≡ take place word.old
         ++ ((first ∷ take (q - place) (drop place word.old)) ++ drop (suc q) word.old) }
 {
-    let mut t = q;
-    while place < t {
-        word[t] = word[t - 1];
-        t -= 1;
-    }
+    word.copy_within(place..q, place + 1);
     word[place] = first;
 }
 
@@ -165,118 +136,69 @@ fn delete(word: &mut [u8], place: usize)
     ensures { take (length word.old - 2) word.new
         ≡ take place word.old ++ drop (place + 2) word.old }
 {
-    let mut t = place + 2;
-    while t < word.len() {
-        word[t - 2] = word[t];
-        t += 1;
-    }
+    word.copy_within(place + 2.., place);
 }
 
-// How many steps were made, how many letters the word has then, and where the letter stands that moves: 0 if it
-// moves no further.
+// How many letters the word has, and where the letter stands that moves, unless it moves no further.
 #[derive(Clone, Copy)]
 struct Moved {
-    steps: usize,
     size: usize,
-    place: usize,
+    place: Option<usize>,
 }
 
 // Applies the rule that ends at q, if there is one. The letter at q does not commute with the one before it.
-fn turn(
-    kind: u8,
-    rank: u8,
-    rest: &[u8],
-    s: usize,
-    families: &mut [u8],
-    places: &mut [u16],
-    lengths: &mut [u16],
-    word: &mut [u8],
-    q: usize,
-) -> Moved
-    requires ready { Ready (kind_of kind) rank rest.now s families.old places.old lengths.old word.old q }
-    requires q_value { 1 ≤ q → commuting rank (levels (kind_of kind) rank) (get_or word.old (q - 1) 0) (get_or word.old q 0) ≡ false }
-    ensures place_bound { result.place ≤ q - 1 }
-    ensures size_value { (1 ≤ result.place → (result.size ≡ length word.old)
-        × Carried (kind_of kind) rank rest.now s families.old places.old lengths.old word.old
-        result.steps families.new places.new lengths.new word.new result.place)
-        × (result.place ≤ 0 → Inserted (kind_of kind) rank rest.now s families.old places.old lengths.old
-        word.old result.steps families.new places.new lengths.new word.new result.size) }
+fn turn(group: Group, rest: &[u8], steps: &mut Steps<'_>, word: &mut [u8], q: usize) -> Moved
+    requires ready { Ready group.kind group.rank rest.now steps.old.made steps.old.families.now steps.old.places.now steps.old.lengths.now word.old q }
+    requires q_value { 1 ≤ q → commuting group.rank (levels group.kind group.rank) (get_or word.old (q - 1) 0) (get_or word.old q 0) ≡ false }
+    ensures same_lists { (steps.new.families.ghost_name ≡ steps.old.families.ghost_name)
+        × (steps.new.places.ghost_name ≡ steps.old.places.ghost_name)
+        × (steps.new.lengths.ghost_name ≡ steps.old.lengths.ghost_name) }
+    ensures moved { MatchOption result.place
+        (Inserted group.kind group.rank rest.now steps.old.made steps.old.families.now steps.old.places.now steps.old.lengths.now
+        word.old steps.new.made steps.new.families.now steps.new.places.now steps.new.lengths.now word.new result.size)
+        (λ p. (p < q) × (result.size ≡ length word.old)
+        × Carried group.kind group.rank rest.now steps.old.made steps.old.families.now steps.old.places.now steps.old.lengths.now word.old
+        steps.new.made steps.new.families.now steps.new.places.now steps.new.lengths.now word.new p) }
 {
     let size = word.len();
-    let Ending::Rule {
-        family,
-        place,
-        first,
-    } = ending_rule(kind, rank, word, q)
-    else {
-        return Moved {
-            steps: s,
-            size,
-            place: 0,
-        };
+    let Some(rule) = ending_rule(group, word, q) else {
+        return Moved { size, place: None };
     };
-    if family == 1 {
+    let place = rule.place;
+    if rule.family == 1 {
         let left = size - 2;
-        note(families, places, lengths, s, 1, place, left + rest.len());
+        steps.note(1, place, left + rest.len());
         delete(word, place);
         return Moved {
-            steps: s + 1,
             size: left,
-            place: 0,
+            place: None,
         };
     }
-    note(
-        families,
-        places,
-        lengths,
-        s,
-        family,
-        place,
-        size + rest.len(),
-    );
-    carry(word, place, q, first);
+    steps.note(rule.family, place, size + rest.len());
+    carry(word, place, q, rule.first);
     Moved {
-        steps: s + 1,
         size,
-        place,
+        place: Some(place),
     }
 }
 
-// The last letter of `word` is carried to where no rule ends with it, or deleted; `rest` follows the word, and s
-// steps were made before.
-pub(crate) fn insert(
-    kind: u8,
-    rank: u8,
-    rest: &[u8],
-    s: usize,
-    families: &mut [u8],
-    places: &mut [u16],
-    lengths: &mut [u16],
-    word: &mut [u8],
-) -> Count
-    requires { Ready (kind_of kind) rank rest.now s families.old places.old lengths.old word.old (length word.old - 1) }
-    ensures { Inserted (kind_of kind) rank rest.now s families.old places.old lengths.old
-        word.old result.steps families.new places.new lengths.new word.new result.size }
+// The last letter of `word` is carried to where no rule ends with it, or deleted; `rest` follows the word. Returns how
+// many letters the word has then.
+pub(crate) fn insert(group: Group, rest: &[u8], steps: &mut Steps<'_>, word: &mut [u8]) -> usize
+    requires { Ready group.kind group.rank rest.now steps.old.made steps.old.families.now steps.old.places.now steps.old.lengths.now word.old (length word.old - 1) }
+    ensures same_lists { (steps.new.families.ghost_name ≡ steps.old.families.ghost_name)
+        × (steps.new.places.ghost_name ≡ steps.old.places.ghost_name)
+        × (steps.new.lengths.ghost_name ≡ steps.old.lengths.ghost_name) }
+    ensures inserted { Inserted group.kind group.rank rest.now steps.old.made steps.old.families.now steps.old.places.now steps.old.lengths.now
+        word.old steps.new.made steps.new.families.now steps.new.places.now steps.new.lengths.now word.new result }
 {
     let mut size = word.len();
-    let mut steps = s;
-    let mut q = size - 1;
-    while 0 < q {
-        let at = pass(kind, rank, rest, steps, families, places, lengths, word, q);
-        let made = turn(
-            kind,
-            rank,
-            rest,
-            steps + (q - at),
-            families,
-            places,
-            lengths,
-            word,
-            at,
-        );
-        steps = made.steps;
+    let mut place = Some(size - 1);
+    while let Some(q) = place {
+        let at = pass(group, rest, steps, word, q);
+        let made = turn(group, rest, steps, word, at);
         size = made.size;
-        q = made.place;
+        place = made.place;
     }
-    Count { steps, size }
+    size
 }

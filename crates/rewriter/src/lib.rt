@@ -3,15 +3,17 @@
 #![tactic(auto)]
 
 ghost use Rattle.std.specs.Prelude.{◌≡◌};
+ghost use Rattle.coxeter.specs.answers.Answer.{as_answer};
 ghost use Rattle.rules.specs.Calls.{Rewrote, single};
+ghost use Rattle.traces.specs.answers.ToEnd.{as_to_end};
 ghost use Rattle.traces.specs.Traces.{TraceYields, rewriting_to_end, number_of_steps};
 
 pub use rules::Rewrite;
-use search::{Fitting, fitting_rule};
-pub use traces::ToEnd;
+use search::fitting_rule;
+pub use traces::Rewriting;
 use tracing::{count, write_trace};
-pub use window::Answer;
-use window::preset_refusal;
+pub use window::Refusal;
+use window::accepted_word;
 use writing::{new_length, write_rewritten};
 
 mod carrying;
@@ -25,40 +27,39 @@ mod writing;
 pub fn rewrite_at(kind: u8, rank: u8, word: &[u8], place: usize, out: &mut [u8]) -> Rewrite
     ensures { Rewrote single kind rank word.now place out.old out.new result }
 {
-    let refusal = preset_refusal(kind, rank, word);
-    if refusal != 0 {
-        return Rewrite::Refused(refusal);
+    let word = match accepted_word(kind, rank, word) {
+        Ok(word) => word,
+        // The requirement names the outcome `Rewrite`, in which a refusal is a number.
+        Err(refusal) => return Rewrite::Refused(refusal.number()),
+    };
+    let size = word.letters.len();
+    if size <= place {
+        return Rewrite::Refused(Refusal::PlacePastEnd.number());
     }
-    if word.len() <= place {
-        return Rewrite::Refused(12);
-    }
-    let Fitting::Rule { family, i, j, left } = fitting_rule(kind, rank, word, place) else {
+    let Some(rule) = fitting_rule(word, place) else {
         return Rewrite::NoneFits;
     };
-    let length = new_length(family, left, word.len());
+    let length = new_length(rule, size);
     if out.len() < length {
-        return Rewrite::Refused(14);
+        return Rewrite::Refused(Refusal::OutputTooShort.number());
     }
-    write_rewritten(rank, family, i, j, left, word, place, out);
+    write_rewritten(word, rule, place, out);
     Rewrite::Used {
-        family,
-        i,
-        j,
+        family: rule.family,
+        i: rule.i,
+        j: rule.j,
         length,
     }
 }
 
 // I21: how many steps the rewriting to its end takes: so many places each list of `rewrite_to_end` must have. For a
 // word of L letters that is at most L (L - 1) / 2 (T25). Checks 5, 6, 7, 8.
-pub fn rewrite_steps(kind: u8, rank: u8, word: &[u8]) -> Answer
-    ensures { result ≡ number_of_steps kind rank word.now }
+pub fn rewrite_steps(kind: u8, rank: u8, word: &[u8]) -> Result<usize, Refusal>
+    ensures { as_answer result ≡ number_of_steps kind rank word.now }
 {
-    let refusal = preset_refusal(kind, rank, word);
-    if refusal != 0 {
-        return Answer::Refused(refusal);
-    }
-    let counted = count(kind, rank, word);
-    Answer::Length(counted.steps)
+    let word = accepted_word(kind, rank, word)?;
+    let counted = count(word);
+    Ok(counted.steps)
 }
 
 // I20: rewrites always at the lowest place where a rule fits, until none fits. Writes family, place and length left
@@ -72,29 +73,19 @@ pub fn rewrite_to_end(
     places: &mut [u16],
     lengths: &mut [u16],
     out: &mut [u8],
-) -> ToEnd
+) -> Result<Rewriting, Refusal>
     ensures { TraceYields (rewriting_to_end kind rank word.now families.old places.old lengths.old
-        out.old) result families.new places.new lengths.new out.new }
+        out.old) (as_to_end result) families.new places.new lengths.new out.new }
 {
-    let refusal = preset_refusal(kind, rank, word);
-    if refusal != 0 {
-        return ToEnd::Refused(refusal);
-    }
-    let counted = count(kind, rank, word);
+    let word = accepted_word(kind, rank, word)?;
+    let counted = count(word);
     let steps = counted.steps;
-    let length = counted.size;
-    if families.len() < steps {
-        return ToEnd::Refused(15);
+    if families.len() < steps || places.len() < steps || lengths.len() < steps {
+        return Err(Refusal::ListTooShort);
     }
-    if places.len() < steps {
-        return ToEnd::Refused(15);
+    if out.len() < counted.length {
+        return Err(Refusal::OutputTooShort);
     }
-    if lengths.len() < steps {
-        return ToEnd::Refused(15);
-    }
-    if out.len() < length {
-        return ToEnd::Refused(14);
-    }
-    write_trace(kind, rank, word, steps, families, places, lengths, out);
-    ToEnd::Ended { steps, length }
+    write_trace(word, steps, families, places, lengths, out);
+    Ok(counted)
 }

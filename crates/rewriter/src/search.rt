@@ -1,180 +1,179 @@
 // The search for the rule that fits at a place. The letters are followed along the way of the blocks [i,j] of the
 // first letter i; the letter that leaves the way decides the rule, so at most 2n letters are looked at.
-ghost use Rattle.std.specs.Prelude.{◌≡◌, ◌*◌, ◌<◌, ◌≤◌, length};
+ghost use Rattle.std.specs.Prelude.{◌≡◌, ◌≢◌, ◌*◌, ◌<◌, ◌≤◌, length, MatchOption, Some, None};
 ghost use Rattle.std.proofs.Math.Option.{none, some};
-ghost use Rattle.coxeter.specs.Kinds.{kind_of};
 ghost use Rattle.coxeter.specs.NormalForm.{levels, last_index};
-ghost use Rattle.coxeter.specs.Checks.{WordOf};
-ghost use Rattle.coxeter.proofs.Acceptance.{Ranked};
 ghost use Rattle.rules.specs.Rules.{rules, first_fitting};
 ghost use Rattle.rules.proofs.Scan as scan;
 ghost use Rattle.rules.proofs.Scan.{next_index, family_at_end, family_at, shown_index};
 
-// A rule that fits, as a rewrite returns it, with the length of its left side.
+use window::{Group, Kind, Word};
+
+// A rule that fits, as a rewrite returns it, with the length of its left side. Families are the numbers of the
+// requirement, 1 to 7, which the outputs show.
 #[derive(Clone, Copy)]
-pub(crate) enum Fitting {
-    Rule {
-        family: u8,
-        i: u8,
-        j: u8,
-        left: usize,
-    },
-    Nothing,
+pub(crate) struct Fitting {
+    pub(crate) family: u8,
+    pub(crate) i: u8,
+    pub(crate) j: u8,
+    pub(crate) left: usize,
 }
 
 // The number of levels, which is also the step at which the way of a block turns.
-pub(crate) fn levels_of(kind: u8, rank: u8) -> u8
-    requires { Ranked (kind_of kind) rank }
-    ensures { result ≡ levels (kind_of kind) rank }
+pub(crate) fn levels_of(group: Group) -> u8
+    ensures { result ≡ levels group.kind group.rank }
 {
-    match kind {
-        1 | 2 => rank,
-        _ => rank - 1,
+    match group.kind {
+        Kind::A | Kind::B => group.rank,
+        Kind::D => group.rank - 1,
     }
 }
 
-// The last index of the blocks of level i.
-pub(crate) fn last_index_of(kind: u8, rank: u8, i: u8) -> u8
-    requires { (rank ≤ 64) × (i ≤ rank) }
-    ensures { result ≡ last_index (kind_of kind) rank i }
-{
-    if kind == 1 {
-        return rank;
-    }
-    2 * rank - i
+// The way of the blocks of level i: the step at which it turns, the last index, and the step after which it goes on
+// with n - 1 or with n, which only kind D has.
+#[derive(Clone, Copy)]
+pub(crate) struct Way {
+    group: Group,
+    i: u8,
+    turn: u8,
+    last: u8,
+    fork: u8,
+    ghost within: { i ≤ group.rank },
+    ghost turns: { turn ≡ levels group.kind group.rank },
+    ghost ends: { last ≡ last_index group.kind group.rank i },
+    ghost forks: { fork ≡ scan.fork group.kind group.rank },
 }
 
-// The step after which the way of kind D's blocks goes on with n - 1 or with n; the other kinds have none.
-pub(crate) fn fork_of(kind: u8, rank: u8) -> u8
-    requires { Ranked (kind_of kind) rank }
-    ensures { result ≡ scan.fork (kind_of kind) rank }
-{
-    match kind {
-        1 | 2 => 0,
-        _ => rank - 2,
+impl Way {
+    pub(crate) fn new(group: Group, i: u8) -> Way
+        requires { i ≤ group.rank }
+        ensures { (result.group ≡ group) × (result.i ≡ i) }
+    {
+        let rank = group.rank;
+        let turn = levels_of(group);
+        match group.kind {
+            Kind::A => Way {
+                group,
+                i,
+                turn,
+                last: rank,
+                fork: 0,
+            },
+            Kind::B => Way {
+                group,
+                i,
+                turn,
+                last: 2 * rank - i,
+                fork: 0,
+            },
+            Kind::D => Way {
+                group,
+                i,
+                turn,
+                last: 2 * rank - i,
+                fork: rank - 2,
+            },
+        }
     }
-}
 
-// The index of the block [i,j] with the letter x after it, or 0 where x leaves the way.
-pub(crate) fn next_index(rank: u8, levels: u8, last: u8, j: u8, x: u8) -> u8
-    requires { (rank ≤ 64) × (last ≤ 2 * rank) × (x ≤ rank) }
-    ensures { result ≡ next_index rank levels last j x }
-{
-    if j < rank {
-        if x == rank {
-            if j + 1 == levels {
-                return rank;
+    // The index of the block [i,j] with the letter x after it, unless x leaves the way.
+    #[tactic(auto, unfolding(rules::proofs::Scan::next_index))]
+    pub(crate) fn next(self, j: u8, x: u8) -> Option<u8>
+        requires { x ≤ self.group.rank }
+        ensures { MatchOption result (next_index self.group.rank (levels self.group.kind self.group.rank) (last_index self.group.kind self.group.rank self.i) j x ≡ 0)
+            (λ s. (s ≡ next_index self.group.rank (levels self.group.kind self.group.rank) (last_index self.group.kind self.group.rank self.i) j x) × (s ≢ 0)) }
+    {
+        let n = self.group.rank;
+        if j < n {
+            if x == n {
+                return (j + 1 == self.turn).then_some(n);
             }
-            return 0;
+            return (x == j + 1).then_some(x);
         }
-        if x == j + 1 {
-            return x;
+        if j < self.last && x + j + 1 == 2 * n {
+            return Some(j + 1);
         }
-        return 0;
+        None
     }
-    if j < last {
-        if x + j + 1 == 2 * rank {
-            return j + 1;
-        }
-        return 0;
-    }
-    0
-}
 
-// The family whose left side is [i,2n-i] x, or 0.
-fn family_at_end(rank: u8, fork: u8, i: u8, x: u8) -> u8
-    requires { (rank ≤ 64) × (i ≤ rank) }
-    ensures { result ≡ family_at_end rank fork i x }
-{
-    if i == fork {
-        if x == rank {
-            return 6;
+    // The family whose left side is [i,2n-i] x, if there is one.
+    #[tactic(auto, unfolding(rules::proofs::Scan::family_at_end))]
+    fn family_at_end(self, x: u8) -> Option<u8>
+        ensures { MatchOption result (family_at_end self.group.rank (scan.fork self.group.kind self.group.rank) self.i x ≡ 0)
+            (λ f. (f ≡ family_at_end self.group.rank (scan.fork self.group.kind self.group.rank) self.i x) × (f ≢ 0)) }
+    {
+        if self.i == self.fork {
+            if x == self.group.rank {
+                return Some(6);
+            }
+            return (x == self.i + 1).then_some(7);
         }
-        if x == i + 1 {
-            return 7;
-        }
-        return 0;
+        (x == self.i + 1).then_some(4)
     }
-    if x == i + 1 {
-        return 4;
-    }
-    0
-}
 
-// The family whose left side is [i,j] x, where x leaves the way, or 0.
-pub(crate) fn family_at(rank: u8, fork: u8, i: u8, j: u8, x: u8) -> u8
-    requires { (rank ≤ 64) × (i ≤ rank) × (j ≤ 2 * rank) }
-    ensures { result ≡ family_at rank fork i j x }
-{
-    if j == i {
-        if x == i {
-            return 1;
+    // The family whose left side is [i,j] x, where x leaves the way, if there is one.
+    #[tactic(auto, unfolding(rules::proofs::Scan::family_at))]
+    pub(crate) fn family(self, j: u8, x: u8) -> Option<u8>
+        requires { j ≤ 2 * self.group.rank }
+        ensures { MatchOption result (family_at self.group.rank (scan.fork self.group.kind self.group.rank) self.i j x ≡ 0)
+            (λ f. (f ≡ family_at self.group.rank (scan.fork self.group.kind self.group.rank) self.i j x) × (f ≢ 0)) }
+    {
+        let i = self.i;
+        if j == i {
+            if x == i {
+                return Some(1);
+            }
+            return (i < x).then_some(2);
         }
-        if i < x {
-            return 2;
+        if i + j == 2 * self.group.rank {
+            return self.family_at_end(x);
         }
-        return 0;
+        if x != i {
+            return None;
+        }
+        if i == self.fork && j == self.group.rank {
+            return Some(5);
+        }
+        Some(3)
     }
-    if i + j == 2 * rank {
-        return family_at_end(rank, fork, i, x);
-    }
-    if x != i {
-        return 0;
-    }
-    if i == fork && j == rank {
-        return 5;
-    }
-    3
 }
 
 // The j that a rule of the family shows.
+#[tactic(auto, unfolding(rules::proofs::Scan::shown_index))]
 pub(crate) fn shown_index(family: u8, j: u8, x: u8) -> u8
     ensures { result ≡ shown_index family j x }
 {
-    if family == 2 {
-        return x;
+    match family {
+        2 => x,
+        3 => j,
+        _ => 0,
     }
-    if family == 3 {
-        return j;
-    }
-    0
 }
 
-// The rule that fits at a place.
-pub(crate) fn fitting_rule(kind: u8, rank: u8, word: &[u8], place: usize) -> Fitting
-    requires ranked { Ranked (kind_of kind) rank }
-    requires word_of { WordOf rank word.now }
-    requires place_in_bounds { place < length word.now }
-    ensures { result ≡ elim (first_fitting (rules (kind_of kind) rank) word.now place) [
-      | none ↦ Fitting.Nothing
-      | some x ↦ Fitting.Rule x.family x.i x.j (length x.left)
+// The rule that fits at a place, if there is one.
+pub(crate) fn fitting_rule(word: Word<'_>, place: usize) -> Option<Fitting>
+    requires { place < length word.letters.now }
+    ensures { result ≡ elim (first_fitting (rules word.entry.group.kind word.entry.group.rank) word.entry.letters.now place) [
+      | none ↦ None
+      | some x ↦ Some (record { family = x.family; i = x.i; j = x.j; left = length x.left })
     ] }
 {
-    let i = word[place];
-    let levels = levels_of(kind, rank);
-    let last = last_index_of(kind, rank, i);
-    let fork = fork_of(kind, rank);
+    let letters = word.letters;
+    let i = letters[place];
+    let way = Way::new(word.group, i);
     let mut j = i;
-    let mut at = place + 1;
-    while at < word.len() {
-        let x = word[at];
-        let next = next_index(rank, levels, last, j, x);
-        if next == 0 {
-            let family = family_at(rank, fork, i, j, x);
-            if family == 0 {
-                return Fitting::Nothing;
-            }
-            let shown = shown_index(family, j, x);
-            let left = at + 1 - place;
-            return Fitting::Rule {
+    for at in place + 1..letters.len() {
+        let x = letters[at];
+        let Some(next) = way.next(j, x) else {
+            let family = way.family(j, x)?;
+            return Some(Fitting {
                 family,
                 i,
-                j: shown,
-                left,
-            };
-        }
+                j: shown_index(family, j, x),
+                left: at + 1 - place,
+            });
+        };
         j = next;
-        at += 1;
     }
-    Fitting::Nothing
+    None
 }

@@ -6,6 +6,9 @@ ghost use Rattle.rules.specs.Rules.{rewritten};
 ghost use Rattle.rules.proofs.Scan.{first_letter, shown_rule, right_length};
 ghost use Rattle.coxeter.specs.Calls.{front};
 
+use crate::search::Fitting;
+use window::Word;
+
 // `part` written to `out` from `at` on.
 pub(crate) fn copy(part: &[u8], out: &mut [u8], at: usize)
     requires { at + length part.now ≤ length out.old }
@@ -14,14 +17,14 @@ pub(crate) fn copy(part: &[u8], out: &mut [u8], at: usize)
     out[at..at + part.len()].copy_from_slice(part);
 }
 
-// The length of the word that a rule of the family leaves of one of `size` letters: without its left side of `left`
-// letters, with its right side.
-pub(crate) fn new_length(family: u8, left: usize, size: usize) -> usize
-    requires { left ≤ size }
-    ensures { result ≡ size - left + right_length family left }
+// The length of the word that the rule leaves of one of `size` letters: without its left side, with its right side.
+#[tactic(auto, unfolding(rules::proofs::Scan::right_length))]
+pub(crate) fn new_length(rule: Fitting, size: usize) -> usize
+    requires { rule.left ≤ size }
+    ensures { result ≡ size - rule.left + right_length rule.family rule.left }
 {
-    if family == 1 {
-        return size - left;
+    if rule.family == 1 {
+        return size - rule.left;
     }
     size
 }
@@ -38,6 +41,7 @@ fn write_without(word: &[u8], place: usize, left: usize, out: &mut [u8])
 }
 
 // The letter that the right side of families 2 to 7 puts first.
+#[tactic(auto, unfolding(rules::proofs::Scan::first_letter))]
 pub(crate) fn first_letter(rank: u8, family: u8, i: u8, j: u8) -> u8
     requires { (1 ≤ rank) × (i < 255) }
     ensures { result ≡ first_letter rank family i j }
@@ -69,28 +73,19 @@ fn write_moved(word: &[u8], place: usize, left: usize, first: u8, out: &mut [u8]
     copy(&word[place..place + left - 1], out, place + 1);
 }
 
-// The word that a rule leaves at the place: the rule with this family, i and j and the `left` letters there as its
-// left side.
-pub(crate) fn write_rewritten(
-    rank: u8,
-    family: u8,
-    i: u8,
-    j: u8,
-    left: usize,
-    word: &[u8],
-    place: usize,
-    out: &mut [u8],
-)
-    requires le_rank { (1 ≤ rank) × (i < 255) }
-    requires le_left { (1 ≤ left) × (place + left ≤ length word.now) }
-    requires left_in_bounds { length word.now - left + right_length family left ≤ length out.old }
+// The word that the rule leaves at the place where it fits.
+pub(crate) fn write_rewritten(word: Word<'_>, rule: Fitting, place: usize, out: &mut [u8])
+    requires i_bound { rule.i < 255 }
+    requires le_left { (1 ≤ rule.left) × (place + rule.left ≤ length word.letters.now) }
+    requires left_in_bounds { length word.letters.now - rule.left + right_length rule.family rule.left ≤ length out.old }
     ensures { out.new ≡
-        front (rewritten (shown_rule rank family i j (take left (drop place word.now))) word.now place) out.old }
+        front (rewritten (shown_rule word.entry.group.rank rule.family rule.i rule.j (take rule.left (drop place word.entry.letters.now))) word.entry.letters.now place) out.old }
 {
-    if family == 1 {
-        write_without(word, place, left, out);
+    let letters = word.letters;
+    if rule.family == 1 {
+        write_without(letters, place, rule.left, out);
         return;
     }
-    let first = first_letter(rank, family, i, j);
-    write_moved(word, place, left, first, out);
+    let first = first_letter(word.group.rank, rule.family, rule.i, rule.j);
+    write_moved(letters, place, rule.left, first, out);
 }

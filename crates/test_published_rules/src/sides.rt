@@ -1,127 +1,105 @@
 // Rules of kind D and their sides, in the specification's steps.
-ghost use Rattle.std.specs.Prelude.{◌≡◌, ◌≤◌, length};
+ghost use Rattle.std.specs.Prelude.{◌≡◌, length};
 
-use std::num::{wrapping_add_u8, wrapping_sub_u8};
+use std::array;
 
-// W last -> first W, or W last -> empty if `first` is 0, where W goes up from i, `up` steps, and then down from
-// `turn`, `down` steps. If `digits` is not 0, the rule is one of CP(4) at rank n instead, in the paper's
-// generators: eight hexadecimal digits a side, with zeros behind it.
+// A word of steps that goes up from i, `up` steps, and then down from `turn`, `down` steps.
 #[derive(Clone, Copy)]
-pub(crate) struct Rule {
-    i: u8,
-    up: u8,
-    turn: u8,
-    down: u8,
-    last: u8,
-    first: u8,
-    digits: u64,
-    n: u8,
+pub(crate) struct Word {
+    pub(crate) i: u8,
+    pub(crate) up: u8,
+    pub(crate) turn: u8,
+    pub(crate) down: u8,
 }
 
-// Stands for no rule: both sides are empty.
-pub(crate) const NONE: Rule = Rule {
-    i: 0,
-    up: 0,
-    turn: 0,
-    down: 0,
-    last: 0,
-    first: 0,
-    digits: 0,
-    n: 0,
-};
-
-pub(crate) fn word_rule(i: u8, up: u8, turn: u8, down: u8, last: u8, first: u8) -> Rule {
-    Rule {
-        i,
-        up,
-        turn,
-        down,
-        last,
-        first,
-        digits: 0,
-        n: 0,
-    }
+#[derive(Clone, Copy)]
+pub(crate) enum Rule {
+    // W last -> first W, or W last -> empty if there is no `first`.
+    Moved {
+        w: Word,
+        last: u8,
+        first: Option<u8>,
+    },
+    // A rule of CP(4) at rank n, in the paper's generators.
+    Small {
+        n: u8,
+        left: &'static [u8],
+        right: &'static [u8],
+    },
 }
 
-pub(crate) fn digit_rule(n: u8, digits: u64) -> Rule {
-    let mut rule = NONE;
-    rule.digits = digits;
-    rule.n = n;
-    rule
-}
-
-// R20: source document 001's generator k is step n + 1 - k, and the other way round. 0 stands for none.
+// R20: source document 001's generator k is step n + 1 - k, and the other way round.
 pub(crate) fn step(n: u8, k: u8) -> u8 {
-    if k == 0 {
-        return 0;
-    }
-    if n < k {
-        return 0;
-    }
-    n - k + 1
+    n.wrapping_add(1).saturating_sub(k)
 }
 
-// The step at a place of W, 0 past its end.
-fn word_step(rule: Rule, place: u8) -> u8 {
-    if place < rule.up {
-        return wrapping_add_u8(rule.i, place);
+// The word of one letter.
+pub(crate) fn one_letter(i: u8) -> Word {
+    Word {
+        i,
+        up: 1,
+        turn: 0,
+        down: 0,
     }
-    let below = place - rule.up;
-    if below < rule.down {
-        return wrapping_sub_u8(rule.turn, below);
-    }
-    0
 }
 
-fn digit_step(n: u8, digits: u64, t: u8) -> u8 {
-    if 7 < t % 128 {
-        return 0;
-    }
-    let digit = t % 128 + t / 128 * 8;
-    step(n, ((digits >> (60 - 4 * digit)) % 16) as u8)
-}
-
-// The sides, place by place: the left side from 0 on and the right side from 128 on, with zeros behind each.
-pub(crate) fn letter(rule: Rule, t: u8) -> u8 {
-    if rule.digits != 0 {
-        return digit_step(rule.n, rule.digits, t);
-    }
-    if t == wrapping_add_u8(rule.up, rule.down) {
-        return rule.last;
-    }
-    if t < 128 {
-        return word_step(rule, t);
-    }
-    if t == 128 {
-        return rule.first;
-    }
-    if rule.first == 0 {
-        return 0;
-    }
-    word_step(rule, t - 129)
-}
-
-// The 128 places from one on.
-pub(crate) fn side(rule: Rule, from: u8) -> [u8; 128]
-    requires { from ≤ 128 }
-    ensures { 128 ≡ length result }
-{
-    let mut side = [0; 128];
-    let mut t: u8 = 0;
-    while t < 128 {
-        side[t as usize] = letter(rule, from + t);
-        t += 1;
-    }
-    side
-}
-
-pub(crate) fn have_same_sides(a: Rule, b: Rule) -> bool {
-    let mut t: usize = 0;
-    while t < 256 {
-        if letter(a, t as u8) != letter(b, t as u8) {
-            return false;
+impl Word {
+    // The step at a place, if the word is as long.
+    fn at(self, place: u8) -> Option<u8> {
+        if place < self.up {
+            return Some(self.i.wrapping_add(place));
         }
-        t += 1;
+        let below = place - self.up;
+        (below < self.down).then_some(self.turn.wrapping_sub(below))
     }
-    true
+}
+
+// The step at a place of a side in the paper's generators, if the side is as long.
+fn small_at(n: u8, side: &[u8], place: u8) -> Option<u8> {
+    side.get(place as usize).map(|k| step(n, *k))
+}
+
+impl Rule {
+    // The step at a place of the left side, if that is as long.
+    pub(crate) fn left(self, place: u8) -> Option<u8> {
+        match self {
+            Rule::Moved { w, last, .. } => {
+                if place == w.up.wrapping_add(w.down) {
+                    return Some(last);
+                }
+                w.at(place)
+            }
+            Rule::Small { n, left, .. } => small_at(n, left, place),
+        }
+    }
+
+    // The same of the right side.
+    pub(crate) fn right(self, place: u8) -> Option<u8> {
+        match self {
+            Rule::Moved { w, first, .. } => {
+                if place == 0 {
+                    return first;
+                }
+                first.and_then(|_| w.at(place - 1))
+            }
+            Rule::Small { n, right, .. } => small_at(n, right, place),
+        }
+    }
+
+    // The left side, with zeros behind it.
+    pub(crate) fn left_side(self) -> [u8; 128]
+        ensures { 128 ≡ length result }
+    {
+        array::from_fn(|place| self.left(place as u8).unwrap_or(0))
+    }
+
+    pub(crate) fn right_side(self) -> [u8; 128]
+        ensures { 128 ≡ length result }
+    {
+        array::from_fn(|place| self.right(place as u8).unwrap_or(0))
+    }
+
+    pub(crate) fn has_sides_of(self, other: Rule) -> bool {
+        (0..128).all(|t| self.left(t) == other.left(t) && self.right(t) == other.right(t))
+    }
 }

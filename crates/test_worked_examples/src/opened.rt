@@ -1,23 +1,26 @@
-// Cases of opened books (B14): each function asks a book through the reader, and returns the count t plus the number of
-// its cases that hold.
-ghost use Rattle.std.specs.Prelude.{◌≡◌, ◌+◌};
+// Cases of opened books (B14): each function asks a book through the reader, and returns whether its case holds or how
+// many of its cases do.
+ghost use Rattle.std.specs.Prelude.{◌≡◌, ◌+◌, ◌≤◌};
+ghost use Rattle.book_format.specs.answers.Opened.{as_opened};
+ghost use Rattle.book_format.specs.answers.Preset.{as_preset};
 ghost use Rattle.book_format.specs.Calls.{checked_book, checked_preset, letters_of, letters_start};
 
+use crate::cases::held;
 use book::reader::{open, preset, preset_letters, presets};
-use book::{Edition, Opened, Preset};
-use std::num::wrapping_add_u64;
+use book::{Edition, Preset};
+use window::{Kind, Refusal};
 
 #[derive(Clone, Copy)]
 struct Answers {
-    count: Opened,
-    first: Preset,
-    second: Preset,
+    count: Result<usize, Refusal>,
+    first: Result<Preset, Refusal>,
+    second: Result<Preset, Refusal>,
 }
 
 // A book that is opened once: how many presets it has, and two of them.
 fn asked(edition: Edition, book: &[u8], i: usize, j: usize) -> Answers
-    ensures { (result.count ≡ checked_book edition book.now)
-        × (result.first ≡ checked_preset edition book.now i) × (result.second ≡ checked_preset edition book.now j) }
+    ensures { (as_opened result.count ≡ checked_book edition book.now)
+        × (as_preset result.first ≡ checked_preset edition book.now i) × (as_preset result.second ≡ checked_preset edition book.now j) }
 {
     let r = open(edition, book);
     let count = presets(r);
@@ -38,72 +41,56 @@ fn letters_of(edition: Edition, book: &[u8], number: usize) -> &[u8]
     preset_letters(open(edition, book), number)
 }
 
-// Whether the book is refused with this number or, if it is 0, has so many presets.
-fn is_opened(opened: Opened, refusal: u8, count: usize) -> bool {
-    match opened {
-        Opened::Presets(c) => refusal == 0 && c == count,
-        Opened::Refused(number) => number == refusal,
-    }
-}
-
 // Whether the preset is found with this kind and rank, and so many letters from byte `start` on.
-fn is_found(answer: Preset, kind: u8, rank: u8, start: usize, size: usize) -> bool {
-    match answer {
-        Preset::Found {
-            kind: k,
-            rank: n,
-            start: s,
-            length: l,
-        } => k == kind && n == rank && s == start && l == size,
-        Preset::Refused(_) => false,
-    }
+fn is_found(
+    answer: Result<Preset, Refusal>,
+    kind: Kind,
+    rank: u8,
+    start: usize,
+    size: usize,
+) -> bool {
+    answer.is_ok_and(|p| {
+        p.group.kind == kind && p.group.rank == rank && p.start == start && p.length == size
+    })
 }
 
-// Whether the preset is refused with this number.
-fn is_refused(answer: Preset, refusal: u8) -> bool {
-    match answer {
-        Preset::Found {
-            kind: _,
-            rank: _,
-            start: _,
-            length: _,
-        } => false,
-        Preset::Refused(number) => number == refusal,
-    }
+// Whether the preset is refused so.
+fn is_refused(answer: Result<Preset, Refusal>, refusal: Refusal) -> bool {
+    answer.is_err_and(|r| r == refusal)
 }
 
 // J13's book: two presets, whose letters begin at bytes s and e.
-pub(crate) fn found(t: u64, edition: Edition, book: &[u8], s: usize, e: usize) -> u64 {
+pub(crate) fn found(edition: Edition, book: &[u8], s: usize, e: usize) -> usize
+    ensures { result ≤ 3 }
+{
     let answers = asked(edition, book, 0, 1);
-    let count = answers.count;
-    let first = answers.first;
-    let second = answers.second;
-    let t = wrapping_add_u64(t, is_opened(count, 0, 2) as u64);
-    let t = wrapping_add_u64(t, is_found(first, 2, 2, s, 4) as u64);
-    wrapping_add_u64(t, is_found(second, 3, 5, e, 6) as u64)
+    held(&[
+        answers.count == Ok(2),
+        is_found(answers.first, Kind::B, 2, s, 4),
+        is_found(answers.second, Kind::D, 5, e, 6),
+    ])
 }
 
-// A book that is refused with `refusal` or, if it is 0, has two presets; presets i and j of it are refused with
-// `number`.
+// A book for which opening returns `opened`; presets i and j of it are refused so.
 pub(crate) fn refused(
-    t: u64,
     edition: Edition,
     book: &[u8],
-    refusal: u8,
+    opened: Result<usize, Refusal>,
     i: usize,
     j: usize,
-    number: u8,
-) -> u64 {
+    refusal: Refusal,
+) -> usize
+    ensures { result ≤ 3 }
+{
     let answers = asked(edition, book, i, j);
-    let count = answers.count;
-    let first = answers.first;
-    let second = answers.second;
-    let t = wrapping_add_u64(t, is_opened(count, refusal, 2) as u64);
-    let t = wrapping_add_u64(t, is_refused(first, number) as u64);
-    wrapping_add_u64(t, is_refused(second, number) as u64)
+    held(&[
+        answers.count == opened,
+        is_refused(answers.first, refusal),
+        is_refused(answers.second, refusal),
+    ])
 }
 
 // The letters of a preset; a refused one has none.
-pub(crate) fn letters(t: u64, edition: Edition, book: &[u8], number: usize, word: &[u8]) -> u64 {
-    wrapping_add_u64(t, (letters_of(edition, book, number) == word) as u64)
+pub(crate) fn letters(edition: Edition, book: &[u8], number: usize, word: &[u8]) -> bool {
+    letters_of(edition, book, number) == word
 }

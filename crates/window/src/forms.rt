@@ -16,25 +16,25 @@ use coxeter::{Refusal, Window, Word};
 
 // C14: whether `room` is less than the length of a window's normal form. No normal form has more than n × n letters, so
 // that the length is measured only if there is less room.
-pub fn lacks_room(window: Window, room: usize) -> bool
-    ensures { result ≡ ltb room (window_length window.entry.group.kind window.entry.entries.now) }
+pub fn lacks_room(w: Window, room: usize) -> bool
+    ensures { result ≡ ltb room (window_length w.entry.group.kind w.entry.entries.now) }
 {
-    let n = window.group.rank as usize;
+    let n = w.group.rank as usize;
     if n * n <= room {
         return false;
     }
-    room < length_of(window)
+    room < length_of(w)
 }
 
 // I5, C14: the normal form of a window, to the front of `out`.
-pub fn write_form(window: Window, out: &mut [u8]) -> Result<usize, Refusal>
-    ensures { Yields (writes 0 (normal_form window.entry.group.kind window.entry.group.rank window.entry.entries.now) out.old)
+pub fn write_form(w: Window, out: &mut [u8]) -> Result<usize, Refusal>
+    ensures { Yields (writes 0 (normal_form w.entry.group.kind w.entry.group.rank w.entry.entries.now) out.old)
         (as_answer result) out.new }
 {
-    if lacks_room(window, out.len()) {
+    if lacks_room(w, out.len()) {
         return Err(Refusal::OutputTooShort);
     }
-    Ok(write_normal_form(window, out))
+    Ok(write_normal_form(w, out))
 }
 
 // I6, C14: the normal form of what a word shows, to the front of `out`.
@@ -56,12 +56,12 @@ pub fn write_form_of_product(pair: Windows, out: &mut [u8]) -> Result<usize, Ref
 }
 
 // I34, C14: the normal form of a window's inverse, to the front of `out`.
-pub fn write_form_of_inverse(window: Window, out: &mut [u8]) -> Result<usize, Refusal>
-    ensures { Yields (writes 0 (normal_form window.entry.group.kind window.entry.group.rank (inverse window.entry.entries.now)) out.old)
+pub fn write_form_of_inverse(w: Window, out: &mut [u8]) -> Result<usize, Refusal>
+    ensures { Yields (writes 0 (normal_form w.entry.group.kind w.entry.group.rank (inverse w.entry.entries.now)) out.old)
         (as_answer result) out.new }
 {
     let mut work = [0i8; 64];
-    write_form(inverse_of(window, &mut work), out)
+    write_form(inverse_of(w, &mut work), out)
 }
 
 // I34, C14: the normal form of the window that leads from the first to the second, to the front of `out`.
@@ -87,7 +87,7 @@ pub fn write_window(word: Word, out: &mut [i8]) -> Result<usize, Refusal>
 }
 
 // I9, C14: the product of two windows, to the front of `out`.
-pub fn write_product(pair: Windows, out: &mut [i8]) -> Result<usize, Refusal>
+pub(crate) fn write_product(pair: Windows, out: &mut [i8]) -> Result<usize, Refusal>
     ensures { Yields (writes 0 (product pair.entry.first.now pair.entry.second.now) out.old) (as_answer result) out.new }
 {
     let m = pair.second.len();
@@ -99,13 +99,13 @@ pub fn write_product(pair: Windows, out: &mut [i8]) -> Result<usize, Refusal>
 }
 
 // I10, C14: the inverse of a window, to the front of `out`.
-pub fn write_inverse(window: Window, out: &mut [i8]) -> Result<usize, Refusal>
-    ensures { Yields (writes 0 (inverse window.entry.entries.now) out.old) (as_answer result) out.new }
+pub fn write_inverse(w: Window, out: &mut [i8]) -> Result<usize, Refusal>
+    ensures { Yields (writes 0 (inverse w.entry.entries.now) out.old) (as_answer result) out.new }
 {
-    let m = window.entries.len();
+    let m = w.entries.len();
     if out.len() < m {
         return Err(Refusal::OutputTooShort);
     }
-    inverse_into(window, out);
+    inverse_into(w, out);
     Ok(m)
 }

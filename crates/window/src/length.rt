@@ -87,7 +87,7 @@ pub(crate) fn crossings_of(window: Window) -> LengthCounts
 }
 
 // I12: the length of a window, from its entries alone.
-pub fn length_of(window: Window) -> usize
+pub(crate) fn length_of(window: Window) -> usize
     ensures { result ≡ window_length window.entry.group.kind window.entry.entries.now }
 {
     let parts = parts_of(window);

@@ -34,12 +34,12 @@ ghost use Rattle.coxeter.specs.Calls.{length_of_window, length_of_word, crossing
 ghost use Rattle.coxeter.specs.Calls as calls;
 
 pub use coxeter::{Better, Group, Kind, LengthCounts, Refusal, Window, Word};
+use forms::write_product;
 pub use forms::{
     lacks_room, write_form, write_form_between, write_form_of_inverse, write_form_of_product,
-    write_form_of_word, write_inverse, write_product, write_window,
+    write_form_of_word, write_inverse, write_window,
 };
-use length::crossings_of;
-pub use length::length_of;
+use length::{crossings_of, length_of};
 pub use pairs::Windows;
 use pairs::accepted_pair;
 use refusals::{accepted_presets, accepted_window, accepted_words};

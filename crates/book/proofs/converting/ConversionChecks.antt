@@ -31,23 +31,19 @@ end_at_inside ed b c i o z e h q = end_at_read_le ed b i o (accepted ed b z) (om
 -- ---- the checks
 
 -- the record at byte o: what its own checks answered, t whether it has too many lanes
-pub refused_by_itself : (ed : Edition) (b : List ℕ) {o o' r : ℕ} → o ≡ o' → preset.Refused r ≡ checked_record ed b o → r ≡ record_conversion_refusal ed b o'
+pub refused_by_itself : (ed : Edition) (b : List ℕ) (o : ℕ) {r : ℕ} → preset.Refused r ≡ checked_record ed b o → r ≡ record_conversion_refusal ed b o
 unfolding record_conversion_refusal
-refused_by_itself ed b {o} {r} e q =
+refused_by_itself ed b o {r} q =
     let s = record_refused ed b o r q in
-    rw (← e, s.0) (sym (then_some r (check 18 (too_many_lanes ed b o)) s.1))
+    rw s.0 (sym (then_some r (check 18 (too_many_lanes ed b o)) s.1))
 
-pub lanes_decide : (ed : Edition) (b : List ℕ) {o o' : ℕ} (k n s l : ℕ) {t : Bool} → o ≡ o' → preset.Found k n s l ≡ checked_record ed b o
-    → t ≡ too_many_lanes ed b o
-    → check 18 t ≡ record_conversion_refusal ed b o'
+pub lanes_decide : (ed : Edition) (b : List ℕ) (o : ℕ) {k n s l : ℕ} {t : Bool} → preset.Found k n s l ≡ checked_record ed b o → t ≡ too_many_lanes ed b o
+    → check 18 t ≡ record_conversion_refusal ed b o
 unfolding record_conversion_refusal
-lanes_decide ed b {o} k n s l e q w = rw (← e, record_found ed b o k n s l q, ← w)
+lanes_decide ed b o {k} {n} {s} {l} q w = rw (record_found ed b o k n s l q, ← w)
 
 -- those of the records from record i on, of c in all: r is that of record i
 module _ (ed : Edition) (b : List ℕ) (c i : ℕ) where
-  pub checks_start : records_conversion_refusal ed b c 0 ≡ records_conversion_refusal ed b (c - 0) 0
-  checks_start = let e : c - 0 ≡ c = omega arith in rw e
-
   pub checks_end : c ≤ i → records_conversion_refusal ed b (c - i) i ≡ 0
   unfolding records_conversion_refusal
   checks_end h = let e : c - i ≡ 0 = omega arith in rw e

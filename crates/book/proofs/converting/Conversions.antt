@@ -9,24 +9,24 @@ use Prim.Native.Nat.{ℕ, suc, ◌+◌, ◌-◌, ◌*◌, ◌≤◌, ◌<◌}
 use native.Mathlib.Nat.{zero-add}
 use native.Mathlib.Numerals.{add-one}
 use native.Mathlib.Omega.{arith}
-use lib.ListN.{length, get_or, take, drop, length-append}
+use lib.ListN.{length, length-append}
 use lib.Seq.{sets, length-sets}
 use Rattle.coxeter.specs.Checks.{RankOf}
 use Rattle.coxeter.specs.answers.Answer as answer
-use Rattle.coxeter.proofs.Lists.{Storing, storing_all, sets_next}
+use Rattle.coxeter.proofs.Lists.{Storing, sets_next}
 use Rattle.coxeter.proofs.Outcomes.{writes-refused, writes_short, writes_done, writes-written}
 use Rattle.coxeter.proofs.FrontLaws.{sets-front}
 use Rattle.book_format.specs.declared.Edition.{Edition}
-use Rattle.book_format.specs.Books.{two_at, two, count, offset, count_place, head_size, kind_at, rank_at}
+use Rattle.book_format.specs.Books.{two, count, offset, head_size, kind_at, rank_at}
 use Rattle.book_format.specs.Books.{lanes_at, letter_count_at, letters_at, record_of}
 use Rattle.book_format.specs.Records.{record_bytes, offset_bytes, lay_out, record_at, records_from, records_of}
 use Rattle.book_format.specs.Conversion.{other, converted, conversion_refusal, converting}
-use Rattle.book_format.proofs.BookLaws.{accepted, end_read_le}
+use Rattle.book_format.proofs.BookLaws.{accepted}
 use Rattle.book_format.proofs.RankLaws.{book_rank_accepted}
 use Rattle.book_format.proofs.WritingLaws.{length_two, length-record_of}
 use Rattle.book_format.proofs.RecordLaws.{length-letters_at, length-records_from}
 use Rattle.book_format.proofs.LayOuts.{length-offset_bytes}
-use Rattle.book_format.proofs.Converting.{Convertible, converted_some, converted-bytes, conversion_opens, passing-at, size_of, length-converted}
+use Rattle.book_format.proofs.Converting.{Convertible, convertible, converted_some, converted-bytes, conversion_opens, passing-at, size_of, length-converted}
 use Rattle.book.proofs.converting.ConversionChecks.{end_at_inside}
 
 -- ---- what is left to write
@@ -67,6 +67,10 @@ offsets_left ed b c o i = offset_bytes (other ed) o (records_from ed b (c - i) i
 abbrev pub all_offsets : Edition → List ℕ → ℕ → List ℕ
 all_offsets ed b c = offset_bytes (other ed) 0 (records_from ed b c 0)
 
+-- what `Conversion` keeps is what a conversion asks
+pub converts : {ed : Edition} {b : List ℕ} → conversion_refusal ed b ≡ 0 → 0 < length b → Convertible ed b
+converts {ed} {b} z h = convertible ed b (λ e. omega arith) z
+
 -- the offsets of the records before record i are stored
 pub record Placing (ed : Edition) (b : List ℕ) (c : ℕ) (before : List ℕ) (at : ℕ) (out : List ℕ) (o i : ℕ) : Type 0 where
   pub storing : Storing before at (all_offsets ed b c) out (at + 2 * i) (offsets_left ed b c o i)
@@ -82,31 +86,9 @@ module _ {ed : Edition} {b : List ℕ} (w : Convertible ed b) {c : ℕ} (n : c �
       length-record_of (other ed) (kind_at b (offset b i)) (rank_at b (offset b i)) (lanes_at ed b (offset b i)) (letters_at ed b (offset b i))
       ∙ rw (length-letters_at ed b (offset b i) (end_at_inside ed b c i (offset b i) w.opens n h refl))
 
-  -- record i as the code stores it: o is where it begins, p the place of its letter count l
-  module _ (i : ℕ) {o p l : ℕ} (h : i < c) (q : o ≡ offset b i) (f : p ≡ count_place ed) (g : l ≡ two_at b (o + p)) where
-    pub rank_passed : RankOf (kind_at b o) (rank_at b o)
-    rank_passed = rw q (book_rank_accepted ed (kind_at b (offset b i)) (rank_at b (offset b i)) (passing-at ed b i w (omega arith)).rank)
-
-    pub size_of_other : {to : Edition} {x : ℕ} → to ≡ other ed → x ≡ head_size to → x + l ≡ head_size (other ed) + letter_count_at ed b (offset b i)
-    size_of_other e k = rw (k, e, g, f, q)
-
-    -- its letters begin m bytes after it
-    module _ {m : ℕ} (d : m ≡ head_size ed) where
-      letters_are : take (o + m + l - (o + m)) (drop (o + m) b) ≡ letters_at ed b (offset b i)
-      letters_are = let s : o + m + l - (o + m) ≡ l = omega arith in rw (s, d, g, f, q)
-
-      pub end_inside : o + m + l ≤ length b
-      end_inside = end_read_le ed b o f d g (end_at_inside ed b c i o w.opens n h q)
-
-      pub room_for : {to : Edition} (at most : ℕ) → to ≡ other ed → at + head_size (other ed) + letter_count_at ed b (offset b i) ≤ most
-          → at + head_size to + length (take (o + m + l - (o + m)) (drop (o + m) b)) ≤ most
-      room_for at most e k =
-          rw (letters_are, e, length-letters_at ed b (offset b i) (end_at_inside ed b c i (offset b i) w.opens n h refl)) k
-
-      pub other-written : {to : Edition} (at : ℕ) {m' : ℕ} (out : List ℕ) {out' : List ℕ} → m' ≡ lanes_at ed b o → to ≡ other ed
-          → out' ≡ sets out at (record_of to (get_or b o 0) (get_or b (o + 1) 0) m' (take (o + m + l - (o + m)) (drop (o + m) b)))
-          → out' ≡ sets out at (bytes_at ed b i)
-      other-written at out r e k = k ∙ rw (letters_are, e, r, q)
+  -- record i, which begins at o
+  pub rank_passed : (i : ℕ) {o : ℕ} → i < c → o ≡ offset b i → RankOf (kind_at b o) (rank_at b o)
+  rank_passed i h q = rw q (book_rank_accepted ed (kind_at b (offset b i)) (rank_at b (offset b i)) (passing-at ed b i w (omega arith)).rank)
 
   -- ---- the records, one after the other
 
@@ -120,9 +102,6 @@ module _ {ed : Edition} {b : List ℕ} (w : Convertible ed b) {c : ℕ} (n : c �
       let l = length-offset_bytes (other ed) 0 (records_from ed b c 0) in
       let r = length-records_from ed b c 0 in
       ap length converted_parts ∙ simp (length-append, length_two) (omega arith)
-
-  pub others_start : (out : List ℕ) → Storing out 0 (all_bytes ed b c) out 0 (bytes_left ed b c 0)
-  others_start out = let e : c - 0 ≡ c = omega arith in rw e storing_all
 
   module _ {o out : List ℕ} {p : ℕ} (i : ℕ) (s : Storing o 0 (all_bytes ed b c) out p (bytes_left ed b c i)) where
     pub others_room : i < c → length (converted ed b) ≤ length o → p + head_size (other ed) + letter_count_at ed b (offset b i) ≤ length out
@@ -157,12 +136,6 @@ module _ {ed : Edition} {b : List ℕ} (w : Convertible ed b) {c : ℕ} (n : c �
       let l = length-letters_at ed b (offset b i) (end_at_inside ed b c i (offset b i) w.opens n h refl) in
       let e : o + head_size (other ed) + length (letters_at ed b (offset b i)) ≡ o + x = omega arith in
       rw (records_left ed b c i h, e)
-
-  pub offsets_start : (out : List ℕ) (at : ℕ) → Placing ed b c out at out 0 0
-  offsets_start out at =
-      let e : c - 0 ≡ c = omega arith in
-      let z : at + 2 * 0 ≡ at = omega arith in
-      record { storing = rw (e, z) storing_all; begins = rw e (zero-add (length (all_bytes ed b c))) }
 
   module _ {before : List ℕ} {at : ℕ} {out : List ℕ} {o i : ℕ} (s : Placing ed b c before at out o i) where
     pub offset_small : i < c → o + (head_size (other ed) + letter_count_at ed b (offset b i)) ≤ 65535

@@ -1,22 +1,26 @@
 -- Runs of presets as the code stores them: one preset after the other, as it is or in five numbers.
 --
--- Sections: presets; five numbers.
+-- Sections: presets; numbers.
 -- Assumes nothing.
 use mathlib.Core.Path.{◌≡◌, refl, sym, ◌∙◌}
-use mathlib.Core.List.{List, [], ◌∷◌, map, map-append, map-map}
-use Prim.Native.Nat.{ℕ, suc, ◌+◌, ◌-◌, ◌*◌, ◌/◌, ◌≤◌, ◌<◌, min}
+use mathlib.Core.List.{List, [], ◌∷◌, ◌++◌, map, map-append}
+use Prim.Native.Nat.{ℕ, zero, suc, ◌+◌, ◌-◌, ◌*◌, ◌≤◌, ◌<◌, min}
 use native.Mathlib.Decide.{ℕ_discrete, dec_le}
-use native.Mathlib.Nat.{add-zero, min-le_left, min-le_right, min-eq_left, min-eq_right}
-use native.Mathlib.Numerals.{add-one, add-two, add-three, add-four}
+use native.Mathlib.Nat.{add-zero, min-eq_left, min-eq_right}
+use native.Mathlib.Numerals.{add-one}
 use native.Mathlib.Omega.{arith}
 use lib.ListN.{length, set, take, length-set}
-use lib.Seq.{sets, take_all, take-suc-set}
+use lib.Seq.{sets, take-suc-set}
 use Rattle.coxeter.specs.Kinds.{up}
 use Rattle.coxeter.proofs.Basics.{up-append}
 use Rattle.coxeter.proofs.Lists.{sets_next}
 use Rattle.book_format.specs.declared.Edition.{Edition}
-use Rattle.book_format.specs.answers.Preset.{Preset}
-use Rattle.book_format.specs.declared.Slot.{Slot}
+use Rattle.std.specs.Prelude.{Result, Err, replicate}
+use Rattle.coxeter.specs.declared.Refusal.{Refusal}
+use Rattle.coxeter.specs.Refusals.{number}
+use Rattle.coxeter.proofs.Groups.{number_positive}
+use Rattle.book_format.specs.declared.Preset as code
+use Rattle.book_format.specs.answers.Preset.{Preset, as_preset}
 use Rattle.book_format.specs.answers.Preset as preset
 use Rattle.book_format.specs.Books.{count, book_refusal}
 use Rattle.book_format.specs.Calls.{checked_preset, fields_of, preset_fields}
@@ -27,37 +31,33 @@ use Rattle.book_format.proofs.RunLaws.{length-fields_of}
 -- ---- presets
 
 -- of n presets from preset i on the first j stand in l, which has room for all of them
-pub record FirstStored (f : ℕ → Slot) (i n j : ℕ) (l : List Slot) : Type 0 where
+pub record FirstStored (f : ℕ → Preset) (i n j : ℕ) (l : List (Result code.Preset Refusal)) : Type 0 where
   pub bound : j ≤ n
   pub size : n ≡ length l
-  pub front : map f (up i j) ≡ take j l
+  pub front : map f (up i j) ≡ map as_preset (take j l)
 
-module _ (f : ℕ → Slot) (i n : ℕ) where
-  pub first_stored_none : (l : List Slot) → n ≡ length l → FirstStored f i n 0 l
+module _ (f : ℕ → Preset) (i n : ℕ) where
+  pub first_stored_none : (l : List (Result code.Preset Refusal)) → n ≡ length l → FirstStored f i n 0 l
   first_stored_none l e = record { bound = omega arith; size = e; front = unfold up in refl }
 
-  pub first_stored_next : {j : ℕ} {l : List Slot} {p : Slot} → FirstStored f i n j l → j < n → p ≡ f (i + j) → FirstStored f i n (j + 1) (set l j p)
-  first_stored_next {j} {l} {p} b h q =
+  pub first_stored_next : {j : ℕ} {l : List (Result code.Preset Refusal)} (p : Result code.Preset Refusal) → FirstStored f i n j l → j < n → as_preset p ≡ f (i + j)
+      → FirstStored f i n (j + 1) (set l j p)
+  first_stored_next {j} {l} p b h q =
       let s = b.size in
-      let last : map f (up (i + j) 1) ≡ p ∷ [] = rw q (unfold up in refl) in
+      let last : map f (up (i + j) 1) ≡ as_preset p ∷ [] = rw q (unfold up in refl) in
+      let grown : take (suc j) (set l j p) ≡ take j l ++ p ∷ [] = take-suc-set l j p (omega arith) in
       record {
         bound = omega arith;
         size = s ∙ sym (length-set l j p);
-        front = rw (up-append i j 1, map-append f (up i j) (up (i + j) 1), last, b.front, add-one j) (sym (take-suc-set l j p (omega arith)));
+        front = rw (up-append i j 1, map-append f (up i j) (up (i + j) 1), last, b.front, add-one j, grown) (sym (map-append as_preset (take j l) (p ∷ [])));
       }
 
-  first_stored_whole : (j : ℕ) (l : List Slot) → FirstStored f i n j l → n ≤ j → l ≡ map f (up i n)
-  first_stored_whole j l b h =
-      let s = b.size in
-      let e : j ≡ n = omega (arith, b.bound) in
-      rw (← e) (sym (take_all j l (omega arith)) ∙ sym b.front)
-
--- the presets that g reads, in their slots
-abbrev pub slots : (ℕ → Preset) → ℕ → Slot
-slots g j = record { preset = g j }
-
-pub presets_whole : (g : ℕ → Preset) {i n j : ℕ} {l : List Slot} → FirstStored (slots g) i n j l → n ≤ j → map (λ s. s.preset) l ≡ map g (up i n)
-presets_whole g {i} {n} {j} {l} b h = rw (first_stored_whole (slots g) i n j l b h) (map-map (λ s. s.preset) (slots g) (up i n))
+-- of a book that is refused with e each preset is
+pub all_refused : (ed : Edition) (b : List ℕ) (i n : ℕ) (e : Refusal) → number e ≡ book_refusal ed b
+    → map as_preset (replicate n (Err e)) ≡ map (checked_preset ed b) (up i n)
+unfolding up
+all_refused ed b i zero e q = refl
+all_refused ed b i (suc n) e q = rw (checked_preset-book ed b i (number e) q (number_positive e), all_refused ed b (suc i) n e q) refl
 
 -- no book has the preset 65,535: what reading a number from there on answers is the same for all
 pub preset_from : (ed : Edition) (b : List ℕ) (i s j : ℕ) → s ≡ min i 65535 → checked_preset ed b (s + j) ≡ checked_preset ed b (i + j)
@@ -74,16 +74,22 @@ preset_from ed b i s j e = elim (dec_le i 65535) [
   ]
 ]
 
--- ---- five numbers
+-- and so is a run from there on
+run_past : (ed : Edition) (b : List ℕ) (i s j n : ℕ) → s ≡ min i 65535 → map (checked_preset ed b) (up (s + j) n) ≡ map (checked_preset ed b) (up (i + j) n)
+unfolding up
+run_past ed b i s j zero e = refl
+run_past ed b i s j (suc n) e =
+    let x : suc (s + j) ≡ s + suc j = omega arith in
+    let y : suc (i + j) ≡ i + suc j = omega arith in
+    rw (preset_from ed b i s j e, x, y, run_past ed b i s (suc j) n e) refl
 
-pub sets_five : (l : List ℕ) (p a b c d e : ℕ) → set (set (set (set (set l p a) (p + 1) b) (p + 2) c) (p + 3) d) (p + 4) e ≡ sets l p (a ∷ b ∷ c ∷ d ∷ e ∷ [])
-sets_five l p a b c d e = simp (add-one, add-two, add-three, add-four)
+pub run_from : (ed : Edition) (b : List ℕ) (i s n : ℕ) → s ≡ min i 65535 → map (checked_preset ed b) (up s n) ≡ map (checked_preset ed b) (up i n)
+run_from ed b i s n e = rw (add-zero s, add-zero i) at (run_past ed b i s 0 n e)
+
+-- ---- numbers
 
 -- n presets from preset i on, of which those from j on are left
 module _ (ed : Edition) (out b : List ℕ) (n i : ℕ) where
-  pub run_start : sets out 0 (preset_fields ed b n i) ≡ sets out (5 * 0) (preset_fields ed b (n - 0) (i + 0))
-  run_start = let e : n - 0 ≡ n = omega arith in rw (e, add-zero i)
-
   pub run_step : (j : ℕ) {p : Preset} {o : List ℕ} → j < n → p ≡ checked_preset ed b (i + j) → o ≡ sets out (5 * j) (fields_of p)
       → sets out (5 * j) (preset_fields ed b (n - j) (i + j)) ≡ sets o (5 * (j + 1)) (preset_fields ed b (n - (j + 1)) (i + (j + 1)))
   unfolding preset_fields
@@ -96,7 +102,3 @@ module _ (ed : Edition) (out b : List ℕ) (n i : ℕ) where
   pub run_end : (j : ℕ) → n ≤ j → sets out (5 * j) (preset_fields ed b (n - j) (i + j)) ≡ out
   unfolding preset_fields
   run_end j h = let e : n - j ≡ 0 = omega arith in rw e
-
--- a run as long as the presets and the room allow
-pub run_fits : (n c i m : ℕ) → n ≡ min (c - i) (m / 5) → i < c → (i + n ≤ c) × (5 * n ≤ m)
-run_fits n c i m e h = (omega (arith, min-le_left (c - i) (m / 5)), omega (arith, min-le_right (c - i) (m / 5)))

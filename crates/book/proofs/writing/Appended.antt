@@ -10,7 +10,7 @@ use Rattle.coxeter.specs.Kinds.{kind_of, lanes}
 use Rattle.book_format.specs.declared.Edition.{Edition}
 use Rattle.book_format.specs.Books.{two, head_size, book_refusal, record_of, appended, count, trailer}
 use Rattle.coxeter.proofs.Lists.{sets_next}
-use Rattle.book_format.proofs.BookLaws.{accepted, book_size}
+use Rattle.book_format.proofs.BookLaws.{accepted}
 use Rattle.book_format.proofs.WritingLaws.{length-record_of, length_two}
 
 -- the records of b, which end at t, and the new one
@@ -39,31 +39,27 @@ trailer-written b out t c p h e₁ e₂ e₃ =
     )
     (ap (sets out p) (append_assoc offsets (two t) (two (c + 1))))
 
--- what the code reads of an accepted book and of a preset: c is the count, s the size with its count, m the size of
+-- what the code reads of an accepted book and of a preset: c is the count, t where the trailer begins, m the size of
 -- a record's head, a the lane count
-pub record AppendSizes (ed : Edition) (b : List ℕ) (k n c s m a : ℕ) : Type 0 where
+pub record AppendSizes (ed : Edition) (b : List ℕ) (k n c t m a : ℕ) : Type 0 where
   pub opens : book_refusal ed b ≡ 0
   pub counted : c ≡ count b
-  pub size : s ≡ book_size b
+  pub cut : t ≡ trailer b
   pub head : m ≡ head_size ed
   pub lane_count : a ≡ lanes (kind_of k) n
 
 -- the records and then the trailer, which begins at t
-pub appended-written : {ed : Edition} {b : List ℕ} {k n c s m a : ℕ} → AppendSizes ed b k n c s m a → (out u : List ℕ) (o₁ : List ℕ) {o₂ : List ℕ}
-    → let t = s - (2 * c + 2) in
-    o₁ ≡ sets out 0 (take t b ++ record_of ed k n a u) → o₂ ≡ sets o₁ (t + m + length u) (take (2 * c) (drop t b) ++ (two t ++ two (c + 1)))
+pub appended-written : {ed : Edition} {b : List ℕ} {k n c t m a : ℕ} → AppendSizes ed b k n c t m a → (out u : List ℕ) (o₁ : List ℕ) {o₂ : List ℕ}
+    → o₁ ≡ sets out 0 (take t b ++ record_of ed k n a u) → o₂ ≡ sets o₁ (t + m + length u) (take (2 * c) (drop t b) ++ (two t ++ two (c + 1)))
     → o₂ ≡ sets out 0 (appended ed b k n u)
 unfolding appended
-appended-written {ed} {b} {k} {n} {c} {s} {m} read out u o₁ e₁ e₂ =
-    let z = read.opens in
+appended-written {ed} {b} {k} {n} {c} {t} {m} read out u o₁ e₁ e₂ =
     let q = read.counted in
-    let y = read.size in
+    let e = read.cut in
     let w = read.head in
     let v = read.lane_count in
-    let t = s - (2 * c + 2) in
+    let fits = accepted ed b read.opens in
     let trailing = take (2 * c) (drop t b) ++ (two t ++ two (c + 1)) in
-    let fits = accepted ed b z in
-    let e : t ≡ trailer b = omega arith in
     let new = record_of ed k n (lanes (kind_of k) n) u in
     let l : length (take t b ++ new) ≡ t + (head_size ed + length u) = simp (length-append, length-take-le t b (omega arith), length-record_of) in
     e₂

@@ -116,13 +116,15 @@ unfolding entry
 entry_minus_at (pos x) h = absurd (false≢true (sym (leb-suc-zero x) ∙ h))
 entry_minus_at (negsuc x) h = refl
 
-pub entry_minus : (z : ℤ) → SFits w8 z → lt_z (to_z w8 (of_z w8 z)) (pos 0) ≡ true → entry z ≡ 32 ∷ 45 ∷ decimal (nat_abs z)
-entry_minus z f h = entry_minus_at z (rw (byte_back z f) at h)
-
 entry_plus_at : (z : ℤ) → lt_z z (pos 0) ≡ false → entry z ≡ spaced (nat_abs z)
 unfolding entry
 entry_plus_at (pos x) h = refl
 entry_plus_at (negsuc x) h = absurd (false≢true (sym h))
 
-pub entry_plus : (z : ℤ) → SFits w8 z → lt_z (to_z w8 (of_z w8 z)) (pos 0) ≡ false → entry z ≡ spaced (nat_abs (to_z w8 (of_z w8 z)))
-entry_plus z f h = rw (byte_back z f) (entry_plus_at z (rw (byte_back z f) at h))
+-- z as code holds it, and its size n
+module _ {z : ℤ} {n : ℕ} (f : SFits w8 z) (e : n ≡ nat_abs (to_z w8 (of_z w8 z))) where
+  pub entry_minus : lt_z (to_z w8 (of_z w8 z)) (pos 0) ≡ true → entry z ≡ 32 ∷ 45 ∷ decimal n
+  entry_minus h = rw (e, byte_back z f) (entry_minus_at z (rw (byte_back z f) at h))
+
+  pub entry_plus : lt_z (to_z w8 (of_z w8 z)) (pos 0) ≡ false → entry z ≡ spaced n
+  entry_plus h = rw (e, byte_back z f) (entry_plus_at z (rw (byte_back z f) at h))

@@ -1,7 +1,7 @@
 -- A piece of a listing, filled line by line: the piece from the first line on is the piece from the next line on,
 -- behind what is written already.
 --
--- Sections: lines; the line of a refused book; what is left of a piece; filling.
+-- Sections: lines; the line of a refused book; what is left of a piece; the line of a turn; filling.
 -- Assumes nothing.
 use mathlib.Core.Path.{◌≡◌, refl, sym, ap, ◌∙◌}
 use mathlib.Core.List.{List, [], ◌∷◌, ◌++◌}
@@ -17,35 +17,16 @@ use Rattle.coxeter.proofs.Outcomes.{writes_short, writes-written}
 use Rattle.coxeter.proofs.FrontLaws.{sets-front, take-front}
 use Rattle.book_format.specs.declared.Edition.{Edition}
 use Rattle.book_format.specs.answers.Opened.{Opened}
-use Rattle.book_format.specs.answers.Opened as opened
 use Rattle.book_format.specs.answers.Preset.{Preset}
 use Rattle.book_format.specs.Calls.{checked_book, checked_preset}
-use Rattle.listing_text.specs.Text.{decimal, refused_text, book_text, presets_text, refused, count_line, refused_book_line, line_by, line_of}
+use Rattle.listing_text.specs.Text.{decimal, refused_text, book_text, refused, refused_book_line, line_by, line_of}
 use Rattle.listing_text.specs.Calls.{line_count_by, line_count, first_line, line, lines, fitting, Piecing, next_piece}
 use Rattle.listing_text.proofs.Pieces.{fitting_more, fitting_none, length-fitting_le}
 use Rattle.listing_text.proofs.Answered.{line_from}
 use Rattle.listing_text.proofs.Decimals.{length-decimal_byte}
-use Rattle.listing_text.proofs.Room.{longest, length-line_le}
+use Rattle.listing_text.proofs.Room.{length-line_le}
 
 -- ---- lines
-
--- by what opening the book answered
-module _ (a : Opened) where
-  pub line_count_presets : (c : ℕ) → a ≡ opened.Presets c → c + 1 ≡ line_count_by a
-  unfolding line_count_by
-  line_count_presets c q = rw q (add-one c)
-
-  pub line_count-refused : (r : ℕ) → a ≡ opened.Refused r → 1 ≡ line_count_by a
-  unfolding line_count_by
-  line_count-refused r q = rw q
-
-  pub first_line_presets : (c : ℕ) → a ≡ opened.Presets c → first_line a ≡ presets_text ++ decimal c ++ (10 ∷ [])
-  unfolding first_line count_line
-  first_line_presets c q = rw q
-
-  pub first_line-refused : (r : ℕ) → a ≡ opened.Refused r → first_line a ≡ (book_text ++ refused_text) ++ decimal r ++ (10 ∷ [])
-  unfolding first_line refused_book_line refused
-  first_line-refused r q = rw q
 
 pub line_count-by : (ed : Edition) (b : List ℕ) (a : Opened) → a ≡ checked_book ed b → line_count_by a ≡ line_count ed b
 unfolding line_count
@@ -73,24 +54,25 @@ stored_front o u v m h p =
     let s : m ≡ length u = omega (arith, p.0) in
     (s, rw (p.1, sets-front u o h) (take-front u o m (sym s)))
 
-pub line-front : (ed : Edition) (b : List ℕ) (i : ℕ) (o v : List ℕ) (m : ℕ) → i < line_count ed b → longest ≤ length o → Stored o 0 (line ed b i) v m
-    → (m ≡ length (line ed b i)) × (take m v ≡ line ed b i)
-line-front ed b i o v m h g p = stored_front o (line ed b i) v m (omega (arith, length-line_le ed b i h)) p
-
 -- ---- the line of a refused book
 
-pub refused_room : (r : ℕ) → r < 256 → length (first_line (opened.Refused r)) ≤ 4096
-unfolding first_line refused_book_line refused
+-- such a line as the code puts it together
+abbrev pub refused_parts : ℕ → List ℕ
+refused_parts r = (book_text ++ refused_text) ++ decimal r ++ (10 ∷ [])
+
+pub refused_room : (r : ℕ) → r < 256 → length (refused_parts r) ≤ 4096
 refused_room r h = simp length-append (omega (arith, length-decimal_byte r h))
 
 -- it is made in a buffer o, which is then v, and has m bytes
-module _ (r : ℕ) (h : r < 256) (o v : List ℕ) (m : ℕ) (g : 4096 ≡ length o) (p : Stored o 0 (first_line (opened.Refused r)) v m) where
+module _ (r : ℕ) (h : r < 256) (o v : List ℕ) (m : ℕ) (g : 4096 ≡ length o) (p : Stored o 0 (refused_parts r) v m) where
   made : (m ≡ length (refused_book_line r)) × (take m v ≡ refused_book_line r)
-  unfolding first_line
-  made = stored_front o (refused_book_line r) v m (omega (arith, refused_room r h)) p
+  unfolding refused_book_line refused
+  made = stored_front o (refused_parts r) v m (omega (arith, refused_room r h)) p
 
-  pub refused_inside : m ≤ length o
-  refused_inside = let l : length (refused_book_line r) ≤ 4096 = unfold first_line in refused_room r h in omega (arith, made.0)
+  pub refused_inside : m ≤ length v
+  refused_inside =
+      let l : length v ≡ length o = ap length p.1 ∙ length-sets o 0 (refused_parts r) in
+      omega (arith, p.0, refused_room r h)
 
   module _ (out : List ℕ) where
     pub refused-short : length out < m → Yields (writes 0 (refused_book_line r) out) (Refused 14) out
@@ -155,47 +137,70 @@ module _ (ed : Edition) (b : List ℕ) (i : ℕ) (out : List ℕ) (at : ℕ) whe
       let e : at + length (line ed b i ++ text) ≡ at + length (line ed b i) + length text = rw length-append (omega arith) in
       rw (fitting_more ed b t i (length out - at) h, m, n, l, e, sets-append out at (line ed b i) text)
 
+-- ---- the line of a turn
+
+-- line i, made at the front of a buffer, which is then v, and has m bytes
+pub record LineMade (ed : Edition) (b : List ℕ) (i : ℕ) (v : List ℕ) (m : ℕ) : Type 0 where
+  pub size : m ≡ length (line ed b i)
+  pub text : take m v ≡ line ed b i
+  pub inside : m ≤ length v
+
+-- o is what opening the book answered, a what reading the preset of the line did, and u the buffer
+module _ (ed : Edition) (b : List ℕ) (i : ℕ) (o : Opened) (a : Preset) (u : List ℕ) (p : o ≡ checked_book ed b) (q : a ≡ checked_preset ed b (i - 1))
+    (h : i < line_count ed b) (g : 65536 ≡ length u) where
+  pub line_room : length (line_from b o i a) ≤ length u
+  line_room = rw (line-from ed b i p q) (omega (arith, length-line_le ed b i h))
+
+  pub line_made : (v : List ℕ) (m : ℕ) → Stored u 0 (line_from b o i a) v m → LineMade ed b i v m
+  line_made v m s =
+      let t : Stored u 0 (line ed b i) v m = rw (line-from ed b i p q) at s in
+      let f = stored_front u (line ed b i) v m (omega (arith, length-line_le ed b i h)) t in
+      let l : length v ≡ length u = ap length t.1 ∙ length-sets u 0 (line ed b i) in
+      record { size = f.0; text = f.1; inside = omega (arith, f.0, length-line_le ed b i h) }
+
 -- ---- filling
 
 -- lines up to `next` are written in `out` up to `end`
-pub record Filling (ed : Edition) (b : List ℕ) (first : ℕ) (o out : List ℕ) (next end left : ℕ) : Type 0 where
+pub record Filling (ed : Edition) (b : List ℕ) (first : ℕ) (o out : List ℕ) (next end : ℕ) : Type 0 where
   pub size : length out ≡ length o
   pub inside : end ≤ length out
-  pub rest : left ≡ line_count ed b - next
-  pub same : next_piece ed b first o ≡ piece_from ed b left next out end
+  pub same : next_piece ed b first o ≡ piece_from ed b (line_count ed b - next) next out end
 
-pub filling_none : {ed : Edition} {b : List ℕ} {first : ℕ} {o : List ℕ} {left : ℕ} → left ≡ line_count ed b - first → Filling ed b first o o first 0 left
-filling_none {ed} {b} {first = first} {o} e = record { size = refl; inside = omega arith; rest = e; same = next_piece-from ed b first o ∙ rw e }
+pub filling_none : {ed : Edition} {b : List ℕ} {first : ℕ} {o : List ℕ} → Filling ed b first o o first 0
+filling_none {ed} {b} {first = first} {o} = record { size = refl; inside = omega arith; same = next_piece-from ed b first o }
 
-module _ {ed : Edition} {b : List ℕ} {first : ℕ} {o out : List ℕ} {next end left : ℕ} (f : Filling ed b first o out next end left) where
-  pub filling_next : {m : ℕ} {u : List ℕ} {out' : List ℕ} {end' : ℕ} → 0 < left → (m ≡ length (line ed b next)) × (u ≡ line ed b next) → m ≤ length out - end
-      → Stored out end u out' end' → Filling ed b first o out' (next + 1) end' (left - 1)
-  filling_next {m} {u} {out'} {end'} h q room p =
-      let t : left ≡ suc (left - 1) = omega arith in
-      let l : length (line ed b next) ≤ length out - end = omega (arith, q.0) in
-      let k : length u ≡ length (line ed b next) = ap length q.1 in
-      let e : end' ≡ end + length (line ed b next) = omega (arith, p.0) in
-      let w : out' ≡ sets out end (line ed b next) = rw q.1 at p.1 in
-      let i = f.inside in
-      let r = f.rest in
-      record {
-        size = ap length w ∙ length-sets out end (line ed b next) ∙ f.size;
-        inside = rw w (rw length-sets (omega (arith, p.0)));
-        rest = omega arith;
-        same = f.same ∙ ap (λ (m : ℕ). piece_from ed b m next out end) t ∙ piece_from_next ed b next out end (left - 1) l ∙ rw (w, add-one next, e);
-      }
+module _ {ed : Edition} {b : List ℕ} {first : ℕ} {o out : List ℕ} {next end : ℕ} (f : Filling ed b first o out next end) where
+  -- the line of a turn, made in a buffer v
+  module _ {v : List ℕ} {m : ℕ} (h : next < line_count ed b) (made : LineMade ed b next v m) where
+    lines_left : line_count ed b - next ≡ suc (line_count ed b - (next + 1))
+    lines_left = omega arith
 
-  pub filling_full : {m : ℕ} → 0 < left → m ≡ length (line ed b next) → length out - end < m
-      → ((stopped next end left out).answer ≡ (next_piece ed b first o).answer) × (out ≡ (next_piece ed b first o).bytes)
-  filling_full h e g =
-      let t : left ≡ suc (left - 1) = omega arith in
-      let q : next_piece ed b first o ≡ stopped next end left out =
-      f.same ∙ ap (λ (s : ℕ). piece_from ed b s next out end) t ∙ piece_from_full ed b next out end (left - 1) (omega arith)
-      ∙ ap (λ (s : ℕ). stopped next end s out) (sym t) in
-      rw q (refl, refl)
+    pub filling_next : m ≤ length out - end → {out' : List ℕ} {end' : ℕ} → Stored out end (take m v) out' end' → Filling ed b first o out' (next + 1) end'
+    filling_next room {out'} {end'} p =
+        let t = line_count ed b - (next + 1) in
+        let l : length (line ed b next) ≤ length out - end = omega (arith, made.size) in
+        let k : length (take m v) ≡ length (line ed b next) = ap length made.text in
+        let e : end' ≡ end + length (line ed b next) = omega (arith, p.0) in
+        let w : out' ≡ sets out end (line ed b next) = rw made.text at p.1 in
+        let i = f.inside in
+        record {
+          size = ap length w ∙ length-sets out end (line ed b next) ∙ f.size;
+          inside = rw w (rw length-sets (omega (arith, p.0)));
+          same = f.same ∙ ap (λ (m : ℕ). piece_from ed b m next out end) lines_left ∙ piece_from_next ed b next out end t l ∙ rw (w, add-one next, e);
+        }
 
-  pub filling_done : left ≤ 0 → ((stopped next end left out).answer ≡ (next_piece ed b first o).answer) × (out ≡ (next_piece ed b first o).bytes)
-  filling_done h =
-      let t : left ≡ 0 = omega arith in
-      let q : next_piece ed b first o ≡ stopped next end left out = f.same ∙ rw t (piece_from_none ed b next out end) in
-      rw q (refl, refl)
+    pub filling_full : {left : ℕ} → left ≡ line_count ed b - next → length out - end < m
+        → ((stopped next end left out).answer ≡ (next_piece ed b first o).answer) × (out ≡ (next_piece ed b first o).bytes)
+    filling_full {left} e g =
+        let t = line_count ed b - (next + 1) in
+        let q : next_piece ed b first o ≡ stopped next end left out =
+        f.same ∙ ap (λ (s : ℕ). piece_from ed b s next out end) lines_left ∙ piece_from_full ed b next out end t (omega (arith, made.size))
+        ∙ ap (λ (s : ℕ). stopped next end s out) (sym lines_left ∙ sym e) in
+        rw q (refl, refl)
+
+  pub filling_done : {last : ℕ} → last ≡ next → line_count ed b ≤ next
+      → ((stopped last end 0 out).answer ≡ (next_piece ed b first o).answer) × (out ≡ (next_piece ed b first o).bytes)
+  filling_done e h =
+      let t : line_count ed b - next ≡ 0 = omega arith in
+      let q : next_piece ed b first o ≡ stopped next end 0 out = f.same ∙ rw t (piece_from_none ed b next out end) in
+      rw (e, q) (refl, refl)

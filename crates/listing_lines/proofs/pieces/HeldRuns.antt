@@ -7,14 +7,16 @@ use native.Mathlib.Omega.{arith}
 use lib.ListN.{get_or, get_or-map}
 use Rattle.coxeter.specs.Kinds.{up}
 use Rattle.book_format.specs.declared.Edition.{Edition}
-use Rattle.book_format.specs.answers.Preset.{Preset}
+use Rattle.std.specs.Prelude.{Result}
+use Rattle.coxeter.specs.declared.Refusal.{Refusal}
+use Rattle.book_format.specs.declared.Preset as code
 use Rattle.book_format.specs.declared.Run.{Run}
-use Rattle.book_format.specs.declared.Slot.{Slot}
+use Rattle.book_format.specs.answers.Preset.{Preset, as_preset}
 use Rattle.book_format.specs.Calls.{checked_preset}
 use Rattle.book_format.proofs.RunsOfPresets.{presets_at}
 
 abbrev presets_of : Run → List Preset
-presets_of run = map (λ s. s.preset) run.presets
+presets_of run = map as_preset run.presets
 
 -- a run of presets, which begins no later than with that of line i
 pub record Held (ed : Edition) (b : List ℕ) (i : ℕ) (run : Run) : Type 0 where
@@ -32,9 +34,9 @@ module _ (ed : Edition) (b : List ℕ) (i : ℕ) {x : ℕ} (e : x ≡ i - 1) whe
   held_kept q h g = rw q (h, g)
 
   module _ (run : Run) (h : Held ed b i run) (g : x < run.first + 128) where
-    pub held_preset : (d : Slot) → (get_or run.presets (x - run.first) d).preset ≡ checked_preset ed b (i - 1)
+    pub held_preset : (d : Result code.Preset Refusal) → as_preset (get_or run.presets (x - run.first) d) ≡ checked_preset ed b (i - 1)
     held_preset d =
         let s = h.begins in
         let at : run.first + (x - run.first) ≡ i - 1 = omega arith in
-        sym (get_or-map (λ (s : Slot). s.preset) run.presets (x - run.first) d)
-        ∙ (presets_at ed b run.first (presets_of run) h.presets).1 (x - run.first) d.preset (omega arith) ∙ rw at
+        sym (get_or-map as_preset run.presets (x - run.first) d)
+        ∙ (presets_at ed b run.first (presets_of run) h.presets).1 (x - run.first) (as_preset d) (omega arith) ∙ rw at

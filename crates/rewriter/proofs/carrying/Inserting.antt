@@ -16,27 +16,35 @@ use Rattle.traces.proofs.Reading.{reading_lower}
 use Rattle.traces.proofs.ReadingSteps.{after_moved, after_dropped}
 use Rattle.traces.proofs.Tracing.{Ready, Carried, Inserted}
 use Rattle.rewriter.specs.declared.ending.Ending.{Ending}
-use Rattle.rewriter.specs.declared.ending.Ending.TheVariants.{Rule, Nothing}
+use Rattle.std.specs.Prelude.{Option as Maybe, Some, None, MatchOption}
 use Rattle.rewriter.proofs.carrying.Shifting.{put}
-use Rattle.rewriter.proofs.carrying.CarriedSteps.{Noted, noted, carried_ready, carried_trans, carried_step, inserted_step, inserted_end, inserted_after}
+use Rattle.rewriter.proofs.carrying.CarriedSteps.{Noted, carried_step, inserted_step, inserted_end}
 use Rattle.rewriter.proofs.carrying.Passing.{ready_inside}
-use Rattle.rewriter.proofs.ending.Ends.{ending_of}
+use Rattle.rewriter.proofs.ending.Ends.{told, ending_of}
 
 -- ---- the rule that was found
 
--- the step at the lowest place has the family f, the place p and y first on its right side
-record StepFound (o : Option Redex) (f p y : ℕ) : Type 0 where
+-- r is the step at the lowest place
+record StepFound (o : Option Redex) (r : Ending) : Type 0 where
   pub step : Redex
   pub is : o ≡ some step
-  pub family : step.rule.family ≡ f
-  pub place : step.place ≡ p
-  pub first : get_or step.rule.right 0 0 ≡ y
+  pub family : step.rule.family ≡ r.family
+  pub place : step.place ≡ r.place
+  pub first : get_or step.rule.right 0 0 ≡ r.first
 
-found : (o : Option Redex) (a : Ending) (f p y : ℕ) → a ≡ ending_of o → a ≡ Rule f p y → StepFound o f p y
-found none a f p y e z = impossible (cc)
-found (some s) a f p y e z = record { step = s; is = refl; family = (cc); place = (cc); first = (cc) }
+found : (o : Option Redex) (a : Maybe Ending) (r : Ending) → a ≡ ending_of o → a ≡ Some r → StepFound o r
+found none a r e z = impossible (cc)
+found (some s) a r e z =
+    let same : told s.rule.family s.place (get_or s.rule.right 0 0) ≡ r = cc in
+    record {
+      step = s;
+      is = refl;
+      family = ap (λ (q : Ending). q.family) same;
+      place = ap (λ (q : Ending). q.place) same;
+      first = ap (λ (q : Ending). q.first) same;
+    }
 
-not_found : (o : Option Redex) (a : Ending) → a ≡ ending_of o → a ≡ Nothing → o ≡ none
+not_found : (o : Option Redex) (a : Maybe Ending) → a ≡ ending_of o → a ≡ None → o ≡ none
 not_found none a e z = refl
 not_found (some s) a e z = cc
 
@@ -45,38 +53,30 @@ module _ {k : Kind} {n : ℕ} {rest : List ℕ} {s : ℕ} {families places lengt
     (a : Ready k n rest s families places lengths word q) where
   -- ---- no rule
 
-  pub turn_none : (m : Ending) → m ≡ ending_of (lowest_redex k n (take (suc q) word)) → m ≡ Nothing
+  pub turn_none : (m : Maybe Ending) → m ≡ ending_of (lowest_redex k n (take (suc q) word)) → m ≡ None
       → Inserted k n rest s families places lengths word s families places lengths word (length word)
   turn_none m e z = inserted_end a (not_found _ m e z) (length word) refl
 
-  -- the letter stands at the word's front
-  turn_front : q ≤ 0 → Inserted k n rest s families places lengths word s families places lengths word (length word)
-  turn_front l = inserted_end a (nowhere (lowest_redex k n (take (suc q) word)) refl) (length word) refl
-    where
-      nowhere : (o : Option Redex) → lowest_redex k n (take (suc q) word) ≡ o → o ≡ none
-      nowhere none e = refl
-      nowhere (some u) e = absurd (omega (arith, reading_lower k n a.rank word q a.reading u e))
+  module _ (r : Ending) {m : Maybe Ending} (e : m ≡ ending_of (lowest_redex k n (take (suc q) word))) (z : m ≡ Some r) where
+    have : StepFound (lowest_redex k n (take (suc q) word)) r
+    have = found _ m r e z
 
-  module _ (f p y : ℕ) {m : Ending} (e : m ≡ ending_of (lowest_redex k n (take (suc q) word))) (z : m ≡ Rule f p y) where
-    have : StepFound (lowest_redex k n (take (suc q) word)) f p y
-    have = found _ m f p y e z
-
-    pub turn_place : p < q
+    pub turn_place : r.place < q
     turn_place = omega (arith, reading_lower k n a.rank word q a.reading have.step have.is, have.place)
 
     -- ---- a letter deleted
 
-    pub turn_pair : f ≡ 1 → p + 2 ≤ length word
+    pub turn_pair : r.family ≡ 1 → r.place + 2 ≤ length word
     turn_pair c =
         let d = after_dropped k n a.rank word q a.reading have.step have.is (have.family ∙ c) in
         omega (arith, d.0, have.place, ready_inside a)
 
-    pub turn_deleted : {families' places' lengths' : List ℕ} (word' : List ℕ) → f ≡ 1 → families' ≡ set families s 1 → places' ≡ set places s p
-        → lengths' ≡ set lengths s (length word - 2 + length rest) → take (length word - 2) word' ≡ take p word ++ drop (p + 2) word
+    pub turn_deleted : {families' places' lengths' : List ℕ} (word' : List ℕ) → r.family ≡ 1 → families' ≡ set families s 1 → places' ≡ set places s r.place
+        → lengths' ≡ set lengths s (length word - 2 + length rest) → take (length word - 2) word' ≡ take r.place word ++ drop (r.place + 2) word
         → Inserted k n rest s families places lengths word (s + 1) families' places' lengths' word' (length word - 2)
     turn_deleted {families'} {places'} {lengths'} word' c i j l w =
         let d = after_dropped k n a.rank word q a.reading have.step have.is (have.family ∙ c) in
-        let g : p + 2 ≡ suc q = omega (arith, d.0, have.place) in
+        let g : r.place + 2 ≡ suc q = omega (arith, d.0, have.place) in
         let v : take (length word - 2) word' ≡ take have.step.place word ++ drop (suc q) word = rw (have.place, ← g) w in
         inserted_step a have.step have.is (have.family ∙ c) refl
         (i ∙ ap (set families s) (sym (have.family ∙ c))) (j ∙ ap (set places s) (sym have.place))
@@ -84,9 +84,9 @@ module _ {k : Kind} {n : ℕ} {rest : List ℕ} {s : ℕ} {families places lengt
 
     -- ---- a letter carried on
 
-    pub turn_carried : {families' places' lengths' word' : List ℕ} → (f ≡ 1 → ⊥) → families' ≡ set families s f → places' ≡ set places s p
-        → lengths' ≡ set lengths s (length word + length rest) → word' ≡ put word p q y
-        → Carried k n rest s families places lengths word (s + 1) families' places' lengths' word' p
+    pub turn_carried : {families' places' lengths' word' : List ℕ} → (r.family ≡ 1 → ⊥) → families' ≡ set families s r.family → places' ≡ set places s r.place
+        → lengths' ≡ set lengths s (length word + length rest) → word' ≡ put word r.place q r.first
+        → Carried k n rest s families places lengths word (s + 1) families' places' lengths' word' r.place
     turn_carried {families'} {places'} {lengths'} {word'} c i j l w =
         let g : (have.step.rule.family ≡ 1 → ⊥) = λ x. c (sym have.family ∙ x) in
         let d = after_moved k n a.rank word q a.reading have.step have.is g in
@@ -97,33 +97,14 @@ module _ {k : Kind} {n : ℕ} {rest : List ℕ} {s : ℕ} {families places lengt
 
 -- ---- turn after turn
 
--- from what a has to what b has: the letter stands at place q of a word that is as long as before, or else q is 0
--- and a normal form of `size` letters stands
-abbrev pub Moved : Kind → ℕ → List ℕ → Noted → Noted → ℕ → ℕ → Type 0
-Moved k n rest a b size q =
-    (1 ≤ q → (size ≡ length a.word)
-    × Carried k n rest a.steps a.families a.places a.lengths a.word b.steps b.families b.places b.lengths b.word q)
-    × (q ≤ 0
-    → Inserted k n rest a.steps a.families a.places a.lengths a.word b.steps b.families b.places b.lengths b.word size)
+-- from what a has to what b has: the letter stands at a place of a word that is as long as before, or else a normal
+-- form of `size` letters stands
+abbrev pub Moved : Kind → ℕ → List ℕ → Noted → Noted → ℕ → Maybe ℕ → Type 0
+Moved k n rest a b size o =
+    MatchOption o (Inserted k n rest a.steps a.families a.places a.lengths a.word b.steps b.families b.places b.lengths b.word size)
+    (λ q. (size ≡ length a.word) × Carried k n rest a.steps a.families a.places a.lengths a.word b.steps b.families b.places b.lengths b.word q)
 
-module _ {k : Kind} {n : ℕ} {rest : List ℕ} {s : ℕ} {families places lengths word : List ℕ} where
-  module _ {s' : ℕ} {families' places' lengths' word' : List ℕ} where
-    pub moved_ended : {size : ℕ} → Inserted k n rest s families places lengths word s' families' places' lengths' word' size
-        → Moved k n rest (noted s families places lengths word) (noted s' families' places' lengths' word') size 0
-    moved_ended d = (λ h. absurd (omega arith), λ h. d)
-
-    pub moved_carried : {t q : ℕ} → Ready k n rest s families places lengths word t
-        → Carried k n rest s families places lengths word s' families' places' lengths' word' q
-        → Moved k n rest (noted s families places lengths word) (noted s' families' places' lengths' word') (length word) q
-    moved_carried a b = (λ h. (refl, b), λ h. inserted_after b (rw (← b.size) (turn_front (carried_ready b a) h)))
-
-    -- the letter passes others from place q to p, and then makes a turn
-    pub moved_again : {size q : ℕ} → Moved k n rest (noted s families places lengths word) (noted s' families' places' lengths' word') size q → 1 ≤ q
-        → {s'' : ℕ} {families'' places'' lengths'' word'' : List ℕ} {p : ℕ}
-        → Carried k n rest s' families' places' lengths' word' s'' families'' places'' lengths'' word'' p
-        → {s''' : ℕ} {families''' places''' lengths''' word''' : List ℕ} {size''' q''' : ℕ}
-        → Moved k n rest (noted s'' families'' places'' lengths'' word'') (noted s''' families''' places''' lengths''' word''') size''' q'''
-        → Moved k n rest (noted s families places lengths word) (noted s''' families''' places''' lengths''' word''') size''' q'''
-    moved_again a o c d =
-        let b = carried_trans (a.0 o).1 c in
-        (λ h. ((d.0 h).0 ∙ b.size, carried_trans b (d.0 h).1), λ h. inserted_after b (d.1 h))
+-- how many places are left for the letter that moves
+abbrev pub reach : Maybe ℕ → ℕ
+reach None = 0
+reach (Some q) = suc q

@@ -43,9 +43,6 @@ module _ (f : ℕ → ℕ) (l : List ℕ) (s : ℕ) where
 
   -- v is the list after i stores
   module _ {v : List ℕ} (i : ℕ) (e : v ≡ stores f l s i) where
-    pub stores_size : length v ≡ length l
-    stores_size = ap length e ∙ length-stores i
-
     pub stores_next : (x : ℕ) → x ≡ f i → set v (s + i) x ≡ stores f l s (i + 1)
     unfolding stores
     stores_next x q = rw (e, q, add-one)

@@ -30,9 +30,9 @@ use Rattle.traces.proofs.TwoLetters.{commuting}
 use Rattle.traces.proofs.LeastWords.{letters_left, Normal, normal_back}
 use Rattle.traces.proofs.Reading.{Reading, reading_inside, reading_before}
 use Rattle.rewriter.specs.declared.ending.Ending.{Ending}
-use Rattle.rewriter.specs.declared.ending.Ending.TheVariants as ending
+use Rattle.std.specs.Prelude.{Option as Maybe, Some, None}
 use Rattle.rewriter.proofs.search.Searches.{Searching, Searchable, along_le, searching_next, searching_found, searching_end}
-use Rattle.rewriter.proofs.ending.Ends.{Begun, block_ending, ending_of, upto_one, ending_none, ending_found}
+use Rattle.rewriter.proofs.ending.Ends.{Begun, told, block_ending, ending_of, upto_one, ending_none, ending_found}
 
 module _ {k : Kind} {n : ℕ} (h : least k ≤ n) {w : List ℕ} {q : ℕ} (r : Reading k n w q) (o : 1 ≤ q) (p : ℕ) (b : Begun w n q p)
     (d : get_or w (q - 1) 0 ≡ get_or w q 0 → ⊥) (t : commuting n (levels k n) (get_or w (q - 1) 0) (get_or w q 0) ≡ false) where
@@ -186,26 +186,24 @@ module _ {k : Kind} {n : ℕ} (h : least k ≤ n) {w : List ℕ} {q : ℕ} (r : 
     long_enough = rw (upto_one q w, length-take-le (suc q) w end_inside) (omega arith)
 
     -- the rule with the left side [i,j] x, as the code tells it
-    abbrev told : ℕ → ℕ → Ending
-    told s f = pick (eqb s 0) (pick (eqb f 0) ending.Nothing (ending.Rule f p (first_letter n f i (shown_index f there.0 letter)))) ending.Nothing
+    abbrev rule_told : ℕ → ℕ → Maybe Ending
+    rule_told s f = pick (eqb s 0) (pick (eqb f 0) None (Some (told f p (first_letter n f i (shown_index f there.0 letter))))) None
 
     by_numbers : {s f : ℕ} → s ≡ next_index n (levels k n) (last_index k n i) there.0 letter → f ≡ family_at n (fork k n) i there.0 letter
-        → told s f ≡ ending_of (lowest_redex k n (take (suc q) w))
+        → rule_told s f ≡ ending_of (lowest_redex k n (take (suc q) w))
     by_numbers {s} {f} x y = elim (ℕ_discrete s 0) [ yes z ↦ leaves z | no z ↦ stays z ]
       where
-        stays : (s ≡ 0 → ⊥) → told s f ≡ ending_of (lowest_redex k n (take (suc q) w))
+        stays : (s ≡ 0 → ⊥) → rule_told s f ≡ ending_of (lowest_redex k n (take (suc q) w))
         stays z =
-            let v = searching_next k n (take (q + 1) w) searchable refl refl searching long_enough
-            (rw last_letter x) z in
+            let v = searching_next k n (take (q + 1) w) searchable searching long_enough (rw last_letter x) z in
             let u = searching_end k n (take (q + 1) w) searchable p i s (q + 1) v (rw (upto_one q w, length-take-le (suc q) w end_inside) (omega arith)) in
             rw (ne_eqb s 0 z) (ending_none k n h w q r o p b d t refl (sym u))
 
-        leaves : s ≡ 0 → told s f ≡ ending_of (lowest_redex k n (take (suc q) w))
+        leaves : s ≡ 0 → rule_told s f ≡ ending_of (lowest_redex k n (take (suc q) w))
         leaves z =
             let v =
             rw last_letter at
-            (searching_found k n (take (q + 1) w) searchable {f = f} refl refl refl searching
-            long_enough (rw last_letter x) z (rw last_letter y)) in
+            (searching_found k n (take (q + 1) w) searchable searching long_enough {f = f} (rw last_letter (sym x ∙ z)) (rw last_letter (sym y))) in
             elim (ℕ_discrete f 0) [
               | yes g ↦ rw (eq-eqb s 0 z, eq-eqb f 0 g) (ending_none k n h w q r o p b d t refl (v ∙ rw (eq-eqb f 0 g)))
               | no g ↦
@@ -213,6 +211,6 @@ module _ {k : Kind} {n : ℕ} (h : least k ≤ n) {w : List ℕ} {q : ℕ} (r : 
                   rw (eq-eqb s 0 z, ne_eqb f 0 g) (ending_found k n h w q r o p b d t refl f i m (q + 1 - p) (v ∙ rw (ne_eqb f 0 g)) refl)
             ]
 
-    pub ending_block : {v j : ℕ} {a : Ending} → v ≡ lower (get_or w (q - 1) 0) (get_or w q 0) → j ≡ index_by k n v (q - p) (get_or w (q - 1) 0)
+    pub ending_block : {v j : ℕ} {a : Maybe Ending} → v ≡ lower (get_or w (q - 1) 0) (get_or w q 0) → j ≡ index_by k n v (q - p) (get_or w (q - 1) 0)
         → a ≡ block_ending k n p v j (get_or w q 0) → a ≡ ending_of (lowest_redex k n (take (suc q) w))
     ending_block {v} {j} u f g = (rw (index_is v j u f, u) at g) ∙ by_numbers refl refl

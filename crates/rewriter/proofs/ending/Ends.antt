@@ -6,16 +6,15 @@
 -- Assumes nothing.
 use mathlib.Core.Path.{◌≡◌, refl, sym, ap, subst, ◌∙◌}
 use mathlib.Core.Bool.{false}
-use mathlib.Core.Logic.{inl, inr}
 use mathlib.Core.List.{List}
 use mathlib.Core.Option.{Option, none, some, none-ne-some}
-use Prim.Native.Nat.{ℕ, suc, ◌+◌, ◌-◌, ◌*◌, ◌≤◌, ◌<◌}
+use Prim.Native.Nat.{ℕ, suc, ◌+◌, ◌-◌, ◌*◌, ◌≤◌, ◌<◌, min}
 use native.Mathlib.Nat.{lt_of_not-le}
-use native.Mathlib.Decide.{dec_le, ℕ_discrete}
+use native.Mathlib.Decide.{dec_le}
 use native.Mathlib.Omega.{arith}
 use lib.Dec.{eqb}
 use lib.ListN.{length, get_or, take, drop, length-take}
-use borrow.Author.Tests.{eq-eqb, ne_eqb}
+use borrow.Author.Tests.{ne_eqb, lt-ltb, le-ltb}
 use Rattle.coxeter.specs.declared.Kind.{Kind}
 use Rattle.coxeter.specs.Kinds.{pick, least}
 use Rattle.coxeter.specs.NormalForm.{levels, last_index}
@@ -28,12 +27,11 @@ use Rattle.traces.proofs.Traces.{lowest_some}
 use Rattle.traces.proofs.TwoLetters.{commuting}
 use Rattle.traces.proofs.Reading.{Reading, reading_inside, reading_lower}
 use Rattle.traces.proofs.ReadingSteps.{Stopped, redex_of_fitting, square_redex, first-letter, place_rising, place_falling, after_dropped, letters_dropped}
+use Rattle.std.specs.Prelude.{Option as Maybe, Some, None}
 use Rattle.rewriter.specs.declared.search.Fitting.{Fitting}
-use Rattle.rewriter.specs.declared.search.Fitting.TheVariants as found
 use Rattle.rewriter.specs.declared.ending.Ending.{Ending}
-use Rattle.rewriter.specs.declared.ending.Ending.TheVariants as ending
 use Rattle.rewriter.proofs.Rewrites.{Fitted, fitted}
-use Rattle.rewriter.proofs.search.Searches.{fitting_of}
+use Rattle.rewriter.proofs.search.Searches.{shown, fitting_of}
 
 -- ---- the search
 
@@ -42,70 +40,43 @@ pub record LettersAbove (w : List ℕ) (from i t : ℕ) : Type 0 where
   pub inside : t ≤ from
   pub above : (v : ℕ) → t ≤ v → v < from → i < get_or w v 0
 
-pub above_start : {w : List ℕ} {from i : ℕ} → LettersAbove w from i from
-above_start = record { inside = omega arith; above = λ v a b. absurd (omega arith) }
-
-module _ (w : List ℕ) (floor from i t : ℕ) (a : LettersAbove w from i t) where
-  pub above_next : floor < t → i < get_or w (t - 1) 0 → LettersAbove w from i (t - 1)
-  above_next f h = record {
-    inside = omega (arith, a.inside);
-    above = λ v b c. elim (ℕ_discrete v (t - 1)) [ yes e ↦ rw e h | no e ↦ a.above v (omega arith) c ];
-  }
-
-  pub above-found : floor < t → get_or w (t - 1) 0 ≤ i → Stopped w floor from i (t - 1)
-  above-found f h = record {
-    inside = omega (arith, a.inside);
-    above = λ v b c. a.above v (omega arith) c;
-    ends = inr (omega (arith, a.inside), h);
-  }
-
-  pub above_end : t ≤ floor → Stopped w floor from i t
-  above_end h = record { inside = a.inside; above = λ v b c. a.above v (omega arith) c; ends = inl h }
-
 -- where `place_of` has stopped
 abbrev pub Begun : List ℕ → ℕ → ℕ → ℕ → Type 0
 Begun w n q p =
     (p ≤ q) × (get_or w (q - 1) 0 < get_or w q 0 → Stopped w (suc q - 2 * n) (q - 1) (get_or w (q - 1) 0) p)
     × (get_or w q 0 ≤ get_or w (q - 1) 0 → Stopped w (suc q - 2 * n) q (get_or w q 0) p)
 
-module _ (w : List ℕ) (n q : ℕ) {l x floor : ℕ} (p : ℕ) (e : floor ≡ suc q - 2 * n) (f : l ≡ get_or w (q - 1) 0) (g : x ≡ get_or w q 0) where
-  pub begun_rising : l < x → Stopped w floor (q - 1) l p → Begun w n q p
-  begun_rising h s = (omega (arith, s.inside), λ a. rw (← e, ← f) s, λ a. absurd (omega arith))
+module _ (w : List ℕ) (n q : ℕ) {l x floor : ℕ} (p : ℕ) (e : floor ≡ q + 1 - 2 * n) (f : l ≡ get_or w (q - 1) 0) (g : x ≡ get_or w q 0) where
+  floor_is : floor ≡ suc q - 2 * n
+  floor_is = omega (arith, e)
 
   pub begun_falling : x ≤ l → Stopped w floor q x p → Begun w n q p
-  begun_falling h s = (s.inside, λ a. absurd (omega arith), λ a. rw (← e, ← g) s)
+  begun_falling h s = (s.inside, λ a. absurd (omega arith), λ a. rw (← floor_is, ← g) s)
 
 -- ---- the rule
 
+-- the rule of family f that begins at place p and puts y first on its right side
+abbrev pub told : ℕ → ℕ → ℕ → Ending
+told f p y = record { family = f; place = p; first = y }
+
 -- the rule with the left side [i,j] x that begins at p, or none
-abbrev pub block_ending : Kind → ℕ → ℕ → ℕ → ℕ → ℕ → Ending
+abbrev pub block_ending : Kind → ℕ → ℕ → ℕ → ℕ → ℕ → Maybe Ending
 block_ending k n p i j x =
     let f = family_at n (fork k n) i j x in
     pick (eqb (next_index n (levels k n) (last_index k n i) j x) 0)
-    (pick (eqb f 0) ending.Nothing (ending.Rule f p (first_letter n f i (shown_index f j x))))
-    ending.Nothing
-
--- from what its tests compute
-module _ (k : Kind) (n p i j x : ℕ) {c m s : ℕ} (a : c ≡ levels k n) (b : m ≡ last_index k n i) (e : s ≡ next_index n c m j x) where
-  goes_to : next_index n (levels k n) (last_index k n i) j x ≡ s
-  goes_to = rw (← a, ← b) (sym e)
-
-  pub block_goes_on : (s ≡ 0 → ⊥) → ending.Nothing ≡ block_ending k n p i j x
-  block_goes_on z = rw (goes_to, ne_eqb s 0 z)
-
-  module _ {d f : ℕ} (z : s ≡ 0) (t : d ≡ fork k n) (g : f ≡ family_at n d i j x) where
-    family_is : family_at n (fork k n) i j x ≡ f
-    family_is = rw (← t) (sym g)
-
-    pub block_no_rule : f ≡ 0 → ending.Nothing ≡ block_ending k n p i j x
-    block_no_rule y = rw (goes_to, eq-eqb s 0 z, family_is, eq-eqb f 0 y)
-
-    pub block_has_rule : {v y : ℕ} → (f ≡ 0 → ⊥) → v ≡ shown_index f j x → y ≡ first_letter n f i v → ending.Rule f p y ≡ block_ending k n p i j x
-    block_has_rule o q r = rw (goes_to, eq-eqb s 0 z, family_is, ne_eqb f 0 o, r, q)
+    (pick (eqb f 0) None (Some (told f p (first_letter n f i (shown_index f j x)))))
+    None
 
 -- the rule at the lowest place, as the search hands it on
-abbrev pub ending_of : Option Redex → Ending
-ending_of o = elim o [ none ↦ ending.Nothing | some s ↦ ending.Rule s.rule.family s.place (get_or s.rule.right 0 0) ]
+abbrev pub ending_of : Option Redex → Maybe Ending
+ending_of o = elim o [ none ↦ None | some s ↦ Some (told s.rule.family s.place (get_or s.rule.right 0 0)) ]
+
+-- the lower of two letters, as the library's method has it
+pub min_lower : (l x : ℕ) → min l x ≡ lower l x
+min_lower l x = elim (dec_le l x) [
+  | yes h ↦ rw (le-ltb x l h) (omega arith)
+  | no h ↦ rw (lt-ltb x l (lt_of_not-le h)) (omega arith)
+]
 
 -- the letter is not the first
 pub one : {q : ℕ} → (q ≡ 0 → ⊥) → 1 ≤ q
@@ -117,10 +88,10 @@ upto_one q w = let e : q + 1 ≡ suc q = omega arith in rw e
 
 -- none ends with the first letter
 pub ending_front : {k : Kind} {n : ℕ} → least k ≤ n → {w : List ℕ} {q : ℕ} → Reading k n w q → q ≡ 0
-    → ending.Nothing ≡ ending_of (lowest_redex k n (take (suc q) w))
+    → None ≡ ending_of (lowest_redex k n (take (suc q) w))
 ending_front {k} {n} h {w} {q} r e = ending_front_by_cases (lowest_redex k n (take (suc q) w)) refl
   where
-    ending_front_by_cases : (o : Option Redex) → lowest_redex k n (take (suc q) w) ≡ o → ending.Nothing ≡ ending_of o
+    ending_front_by_cases : (o : Option Redex) → lowest_redex k n (take (suc q) w) ≡ o → None ≡ ending_of o
     ending_front_by_cases none t = refl
     ending_front_by_cases (some s) t = absurd (omega (arith, reading_lower k n h w q r s t))
 
@@ -143,7 +114,7 @@ module _ (k : Kind) (n : ℕ) (h : least k ≤ n) (w : List ℕ) (q : ℕ) (r : 
   pub end_inside : q < length w
   end_inside = reading_inside k n h w q r
 
-  pub ending_square : before ≡ letter → ending.Rule 1 (q - 1) 0 ≡ ending_of (lowest_redex k n (take (suc q) w))
+  pub ending_square : before ≡ letter → Some (told 1 (q - 1) 0) ≡ ending_of (lowest_redex k n (take (suc q) w))
   ending_square e =
       let u = square_redex k n h w (q - 1) reading (ap (λ (t : ℕ). get_or w t 0) (sym back) ∙ sym e) (letters_within (q - 1) (omega (arith, end_inside))) in
       sym (ap ending_of (ap (λ (t : ℕ). lowest_redex k n (take (suc t) w)) back ∙ u))
@@ -165,10 +136,10 @@ module _ (k : Kind) (n : ℕ) (h : least k ≤ n) (w : List ℕ) (q : ℕ) (r : 
         ]
 
     -- the letter there is not the lower of the last two
-    pub ending_other : (get_or w p 0 ≡ lower before letter → ⊥) → ending.Nothing ≡ ending_of (lowest_redex k n (take (suc q) w))
+    pub ending_other : (get_or w p 0 ≡ lower before letter → ⊥) → None ≡ ending_of (lowest_redex k n (take (suc q) w))
     ending_other f = ending_other_by_cases (lowest_redex k n (take (suc q) w)) refl
       where
-        ending_other_by_cases : (y : Option Redex) → lowest_redex k n (take (suc q) w) ≡ y → ending.Nothing ≡ ending_of y
+        ending_other_by_cases : (y : Option Redex) → lowest_redex k n (take (suc q) w) ≡ y → None ≡ ending_of y
         ending_other_by_cases none j = refl
         ending_other_by_cases (some s) j =
             let e : lowest_redex k n (take (suc (suc (q - 1))) w) ≡ some s = ap (λ (i : ℕ). lowest_redex k n (take (suc i) w)) (sym back) ∙ j in
@@ -176,23 +147,23 @@ module _ (k : Kind) (n : ℕ) (h : least k ≤ n) (w : List ℕ) (q : ℕ) (r : 
             absurd (f (ap (λ (i : ℕ). get_or w i 0) (sym (place_is s j)) ∙ (first-letter k n h w (q - 1) reading s e).0 ∙ ap (lower before) x))
 
     -- a is what the search of one rewrite answers
-    module _ {a : Fitting} (e : a ≡ fitting_of (first_fitting (rules k n) (take (q + 1) w) p)) where
-      pub ending_none : a ≡ found.Nothing → ending.Nothing ≡ ending_of (lowest_redex k n (take (suc q) w))
+    module _ {a : Maybe Fitting} (e : a ≡ fitting_of (first_fitting (rules k n) (take (q + 1) w) p)) where
+      pub ending_none : a ≡ None → None ≡ ending_of (lowest_redex k n (take (suc q) w))
       ending_none z = ending_none_by_cases (lowest_redex k n (take (suc q) w)) refl
         where
-          nothing : (y : Option Rule) → fitting_of y ≡ found.Nothing → y ≡ none
+          nothing : (y : Option Rule) → fitting_of y ≡ None → y ≡ none
           nothing none j = refl
           nothing (some x) j = cc
 
-          ending_none_by_cases : (y : Option Redex) → lowest_redex k n (take (suc q) w) ≡ y → ending.Nothing ≡ ending_of y
+          ending_none_by_cases : (y : Option Redex) → lowest_redex k n (take (suc q) w) ≡ y → None ≡ ending_of y
           ending_none_by_cases none j = refl
           ending_none_by_cases (some s) j =
               absurd (none-ne-some s.rule
               (sym (ap (λ (i : List ℕ). first_fitting (rules k n) i p) (sym (upto_one q w)) ∙ nothing (first_fitting (rules k n) (take (q + 1) w) p) (sym e ∙ z))
               ∙ ap (first_fitting (rules k n) (take (suc q) w)) (sym (place_is s j)) ∙ (lowest_some k n _ s j).fitting))
 
-      module _ (f i j l : ℕ) (z : a ≡ found.Rule f i j l) where
-        handed : Fitted k n (take (q + 1) w) p f i j l
+      module _ (f i j l : ℕ) (z : a ≡ Some (shown f i j l)) where
+        handed : Fitted k n (take (q + 1) w) p (shown f i j l)
         handed = fitted h (rw (upto_one q w) (simp length-take (omega (arith, end_inside, b.0)))) e z
 
         found_redex : lowest_redex k n (take (suc q) w) ≡ some (record { place = p; rule = shown_rule n f i j (take l (drop p (take (q + 1) w))) })
@@ -207,6 +178,6 @@ module _ (k : Kind) (n : ℕ) (h : least k ≤ n) (w : List ℕ) (q : ℕ) (r : 
             let g = after_dropped k n h w q r _ found_redex c in
             d (ap (λ (m : ℕ). get_or w m 0) (omega (arith, g.0)) ∙ letters_dropped k n h w q r _ found_redex c ∙ ap (λ (m : ℕ). get_or w m 0) g.0)
 
-        pub ending_found : {y : ℕ} → y ≡ first_letter n f i j → ending.Rule f p y ≡ ending_of (lowest_redex k n (take (suc q) w))
+        pub ending_found : {y : ℕ} → y ≡ first_letter n f i j → Some (told f p y) ≡ ending_of (lowest_redex k n (take (suc q) w))
         unfolding shown_rule
         ending_found c = sym (ap ending_of found_redex ∙ rw (ne_eqb f 1 not_square, c))

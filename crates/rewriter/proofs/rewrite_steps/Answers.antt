@@ -1,13 +1,12 @@
 -- `rewrite_steps` counts the steps of a word that passes its checks.
 -- Assumes nothing.
-use Rattle.rewriter.proofs.RewritingToEnd.{accepted, steps_refused, steps_counted}
+use Rattle.rewriter.proofs.RewritingToEnd.{checked_trace, steps_refused, steps_counted}
 use Rattle.rewriter.proofs.rewrite_steps.Goals as goal
 
-pub returns-then-refusal-ne0 : goal.returns-then-refusal-ne0
-returns-then-refusal-ne0 c = steps_refused _ _ _ c.preset_refusal-refusal.ensures c.if-refusal-ne0.true
-
-pub count-counted-requires : goal.count-counted-requires
-count-counted-requires c = accepted _ _ _ c.preset_refusal-refusal.ensures c.if-refusal-ne0.false
+pub returns-in_err-word : goal.returns-in_err-word
+returns-in_err-word c = steps_refused _ _ _ _ c.in_err-word.ensures.refusal _ c.from_residual.ensures
 
 pub returns : goal.returns
-returns c = steps_counted _ _ _ c.preset_refusal-refusal.ensures _ c.if-refusal-ne0.false c.count-counted.ensures.0
+returns c =
+    let e = c.in_ok-word.ensures in
+    steps_counted _ _ _ _ e.refusal (rw (checked_trace c.in_ok-word.word _ _ _ e.word) at c.count-counted.ensures.0)

@@ -1,39 +1,35 @@
 -- `rewrite_to_end` refuses in the order of its checks, with the steps counted first, or writes the rewriting.
 -- Assumes nothing.
-use Rattle.rewriter.proofs.RewritingToEnd.{accepted, traced_refused, families_short, places_short, lengths_short, out_short, traced_done}
+use Rattle.rewriter.proofs.RewritingToEnd.{checked_trace, traced_refused, families_short, places_short, lengths_short, out_short, traced_done}
 use Rattle.rewriter.proofs.rewrite_to_end.Goals as goal
+use Rattle.rewriter.proofs.rewrite_to_end.Goals.{
+  then-families-steps-via-then-families-steps as short_families,
+  then-families-steps-via-else-families-steps+then-places-steps as short_places,
+  then-families-steps-via-else-families-steps+else-places-steps+then-lengths-steps as short_lengths,
+}
 
-pub returns-then-refusal-ne0 : goal.returns-then-refusal-ne0
-returns-then-refusal-ne0 c =
-    traced_refused _ _ _ c.preset_refusal-refusal.ensures _ _ _ _ c.if-refusal-ne0.true
-
-pub count-counted-requires : goal.count-counted-requires
-count-counted-requires c =
-    accepted _ _ _ c.preset_refusal-refusal.ensures c.if-refusal-ne0.false
+pub returns-in_err-word : goal.returns-in_err-word
+returns-in_err-word c = traced_refused _ _ _ _ c.in_err-word.ensures.refusal _ _ _ _ _ c.from_residual.ensures
 
 pub returns-then-families-steps : goal.returns-then-families-steps
 returns-then-families-steps c =
-    families_short _ _ _ c.preset_refusal-refusal.ensures _ _ _ _ c.if-refusal-ne0.false c.count-counted.ensures.0 c.if-families-steps.true
+    let e = c.in_ok-word.ensures in
+    let n = rw (checked_trace c.in_ok-word.word _ _ _ e.word) at c.count-counted.ensures in
+    elim c.then-families-steps.branch [
+      | short_families w ↦ families_short _ _ _ _ _ _ _ e.refusal n.0 w.if-families-steps.true
+      | short_places w ↦ places_short _ _ _ _ _ _ _ e.refusal n.0 w.if-families-steps.false w.if-places-steps.true
+      | short_lengths w ↦ lengths_short _ _ _ _ _ _ _ e.refusal n.0 w.if-families-steps.false w.if-places-steps.false w.if-lengths-steps.true
+    ]
 
-pub returns-then-places-steps : goal.returns-then-places-steps
-returns-then-places-steps c =
-    places_short _ _ _ c.preset_refusal-refusal.ensures _ _ _ _ c.if-refusal-ne0.false c.count-counted.ensures.0 c.if-families-steps.false c.if-places-steps.true
-
-pub returns-then-lengths-steps : goal.returns-then-lengths-steps
-returns-then-lengths-steps c =
-    lengths_short _ _ _ c.preset_refusal-refusal.ensures _ _ _ _ c.if-refusal-ne0.false c.count-counted.ensures.0 c.if-families-steps.false c.if-places-steps.false c.if-lengths-steps.true
-
-pub returns-then-out-length : goal.returns-then-out-length
-returns-then-out-length c =
-    out_short _ _ _ c.preset_refusal-refusal.ensures _ _ _ _ c.if-refusal-ne0.false c.count-counted.ensures.0 c.if-families-steps.false c.if-places-steps.false c.if-lengths-steps.false
-    c.count-counted.ensures.1 c.if-out-length.true
-
-pub write_trace-requires : goal.write_trace-requires
-write_trace-requires c =
-    record { accepted_word = accepted _ _ _ c.preset_refusal-refusal.ensures c.if-refusal-ne0.false; steps_value = c.count-counted.ensures.0; steps_in_bounds = (c.if-families-steps.false, c.if-places-steps.false, c.if-lengths-steps.false); word_in_bounds = rw c.count-counted.ensures.1 at c.if-out-length.false }
+pub returns-then-out-counted : goal.returns-then-out-counted
+returns-then-out-counted c =
+    let e = c.in_ok-word.ensures in
+    let n = rw (checked_trace c.in_ok-word.word _ _ _ e.word) at c.count-counted.ensures in
+    out_short _ _ _ _ _ _ _ e.refusal n.0 c.if-families-steps.false c.if-places-steps.false c.if-lengths-steps.false n.1 c.if-out-counted.true
 
 pub returns : goal.returns
 returns c =
-    let t = c.write_trace.ensures in
-    traced_done _ _ _ c.preset_refusal-refusal.ensures _ _ _ _ c.if-refusal-ne0.false c.count-counted.ensures.0 c.if-families-steps.false c.if-places-steps.false c.if-lengths-steps.false
-    c.count-counted.ensures.1 c.if-out-length.false t.0 t.1 t.2 t.3
+    let e = c.in_ok-word.ensures in
+    let n = rw (checked_trace c.in_ok-word.word _ _ _ e.word) at c.count-counted.ensures in
+    let t = rw (checked_trace c.in_ok-word.word _ _ _ e.word) at c.write_trace.ensures in
+    traced_done _ _ _ _ _ _ _ e.refusal n.0 c.if-families-steps.false c.if-places-steps.false c.if-lengths-steps.false n.1 c.if-out-counted.false t.0 t.1 t.2 t.3

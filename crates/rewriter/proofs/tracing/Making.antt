@@ -8,21 +8,21 @@ use mathlib.Core.List.{List, [], ◌∷◌, ◌++◌, append-nil, map}
 use Prim.Native.Nat.{ℕ, suc, ◌+◌, ◌-◌, ◌≤◌, ◌<◌}
 use native.Mathlib.Nat.{zero-add}
 use native.Mathlib.Omega.{arith}
-use lib.ListN.{length, get_or, take, drop, set, length-append, length-set, length-drop, drop_of_length-le}
-use lib.Seq.{length-take-le, take-suc-set, take-append-le, append_snoc, sets}
+use lib.ListN.{length, get_or, take, drop, set, length-append, length-drop, drop_of_length-le}
+use lib.Seq.{length-take-le, take-suc-set, append_snoc, sets}
 use Rattle.coxeter.specs.declared.Kind.{Kind}
-use Rattle.coxeter.specs.Kinds.{kind_of}
-use Rattle.coxeter.specs.Checks.{wrong_letter}
+use Rattle.coxeter.specs.declared.Word.{Word}
+use Rattle.coxeter.specs.Checks.{wrong_letter, WordOf}
 use Rattle.coxeter.specs.Calls.{front}
-use Rattle.coxeter.proofs.Acceptance.{Ranked, rank_accepted, letters_accepted, length_accepted}
+use Rattle.coxeter.proofs.Acceptance.{Ranked, letters_accepted, length_accepted}
+use Rattle.coxeter.proofs.Groups.{in_range_ranked, by_number}
 use Rattle.coxeter.proofs.LetterLaws.{wrong_letter-drop, letter_at}
 use Rattle.coxeter.proofs.Lists.{take_rest, drop_next}
 use Rattle.coxeter.proofs.FrontLaws.{sets-front, front_parts, front_whole}
-use Rattle.rules.specs.Runs.{AcceptedWord}
 use Rattle.traces.specs.Traces.{Line, Trace, trace, families_of, places_of, lengths_of}
 use Rattle.traces.proofs.LeastWords.{Normal}
 use Rattle.traces.proofs.Reading.{reading_next, nil_irreducible}
-use Rattle.traces.proofs.Tracing.{Finished, finish_with, finish, finish_end, finish_steps, Ready, Inserted, steps_few, Made}
+use Rattle.traces.proofs.Tracing.{Finished, finish_with, finish, finish_end, finish_steps, Ready, steps_few, Made}
 
 -- ---- letters read
 
@@ -32,38 +32,44 @@ pub record Making (k : Kind) (n : ℕ) (word families places lengths work₀ : L
   pub inside : i ≤ length word
   pub short : size ≤ i
   pub work_size : length work ≡ length work₀
-  pub families_size : length families' ≡ length families
-  pub places_size : length places' ≡ length places
-  pub lengths_size : length lengths' ≡ length lengths
   pub normal : Normal k n (take size work)
   pub same : finish k n 0 families places lengths word ≡ finish k n s families' places' lengths' (take size work ++ drop i word)
 
-module _ {k n : ℕ} {word : List ℕ} (families places lengths work₀ : List ℕ) (h : AcceptedWord k n word) where
+-- a word takes at most 4,096 · 4,095 / 2 steps
+steps_few_of : (w : Word) → length (trace w.group.kind w.group.rank w.letters.now).lines ≤ 8386560
+steps_few_of w =
+    by_number (λ (k : Kind) (n : ℕ). WordOf n w.letters.now → length (trace k n w.letters.now).lines ≤ 8386560)
+    (λ j n g h. steps_few j n w.letters.now (record { rank = g; word = h })) w.group.kind w.group.rank w.group.in_range w.accepted
+
+module _ (w : Word) (families places lengths work₀ : List ℕ) where
   abbrev kind : Kind
-  kind = kind_of k
+  kind = w.group.kind
+
+  abbrev n : ℕ
+  n = w.group.rank
+
+  abbrev word : List ℕ
+  word = w.letters.now
 
   rank : Ranked kind n
-  rank = rank_accepted k n h.rank
+  rank = in_range_ranked kind n w.group.in_range
 
-  pub making_start : Making (kind_of k) n word families places lengths work₀ 0 0 families places lengths work₀ 0
+  pub making_start : Making kind n word families places lengths work₀ 0 0 families places lengths work₀ 0
   unfolding wrong_letter
   making_start = record {
     inside = omega arith;
     short = omega arith;
     work_size = refl;
-    families_size = refl;
-    places_size = refl;
-    lengths_size = refl;
     normal = record { letters = refl; irreducible = nil_irreducible kind n rank.0 };
     same = refl;
   }
 
   module _ {i s : ℕ} {families' places' lengths' work : List ℕ} {size : ℕ}
-      (m : Making (kind_of k) n word families places lengths work₀ i s families' places' lengths' work size) where
+      (m : Making kind n word families places lengths work₀ i s families' places' lengths' work size) where
     abbrev form : List ℕ
     form = take size work
 
-    module _ (g : i < length word) (f : length word ≤ length work₀) where
+    module _ (l : i < length word) (f : length word ≤ length work₀) where
       abbrev letter : ℕ
       letter = get_or word i 0
 
@@ -74,7 +80,7 @@ module _ {k n : ℕ} {word : List ℕ} (families places lengths work₀ : List �
       making_room = omega (arith, m.short, m.work_size)
 
       letter_in : (1 ≤ letter) × (letter ≤ n)
-      letter_in = letter_at n word i g (letters_accepted n word h.word)
+      letter_in = letter_at n word i l (letters_accepted n word w.accepted)
 
       -- what the call is lent: the normal form with the letter behind it, and the rest of the word
       abbrev lent : List ℕ
@@ -94,65 +100,41 @@ module _ {k n : ℕ} {word : List ℕ} (families places lengths work₀ : List �
 
       joined : lent ++ rest ≡ form ++ drop i word
       joined =
-          ap (λ (w : List ℕ). w ++ rest) lent_is ∙ append_snoc form letter rest
-          ∙ ap (λ (w : List ℕ). form ++ w) (ap (λ (w : List ℕ). letter ∷ w) rest_is ∙ sym (drop_next word i 0 g))
+          ap (λ (v : List ℕ). v ++ rest) lent_is ∙ append_snoc form letter rest
+          ∙ ap (λ (v : List ℕ). form ++ v) (ap (λ (v : List ℕ). letter ∷ v) rest_is ∙ sym (drop_next word i 0 l))
 
       all : finish kind n 0 families places lengths word ≡ finish kind n s families' places' lengths' (lent ++ rest)
       all = m.same ∙ ap (finish kind n s families' places' lengths') (sym joined)
 
-      pub making_ready : length places ≡ length families → length lengths ≡ length families
-          → Ready (kind_of k) n (take (length word - (i + 1)) (drop (i + 1) word)) s families' places' lengths'
+      pub making_ready : length places' ≡ length families' → length lengths' ≡ length families'
+          → Ready kind n (take (length word - (i + 1)) (drop (i + 1) word)) s families' places' lengths'
           (take (size + 1) (set work size (get_or word i 0))) (length (take (size + 1) (set work size (get_or word i 0))) - 1)
-      making_ready p l =
+      making_ready p z =
           let c : length lent - 1 ≡ length form = omega (arith, lent_length, size_form) in
           record {
             rank = rank.0;
             high = rank.1;
             reading = rw (c, lent_is) (reading_next kind n form letter m.normal letter_in.0 letter_in.1);
-            letters = rw rest_is (wrong_letter-drop n (i + 1) word (letters_accepted n word h.word));
-            short = omega (arith, lent_length, ap length rest_is, length-drop (i + 1) word, m.short, length_accepted n word h.word);
+            letters = rw rest_is (wrong_letter-drop n (i + 1) word (letters_accepted n word w.accepted));
+            short = omega (arith, lent_length, ap length rest_is, length-drop (i + 1) word, m.short, length_accepted n word w.accepted);
             room =
                 omega (
                   arith,
-                  steps_few k n word h,
+                  steps_few_of w,
                   sym (finish_steps kind n 0 families places lengths word) ∙ ap (λ (f : Finished). f.steps) all
                       ∙ finish_steps kind n s families' places' lengths' (lent ++ rest),
                 );
-            as_places = m.places_size ∙ p ∙ sym m.families_size;
-            as_lengths = m.lengths_size ∙ l ∙ sym m.families_size;
-          }
-
-      -- `after` is what the call leaves of what it was lent
-      pub making_next : {s'' : ℕ} {families'' places'' lengths'' after : List ℕ} {size'' : ℕ}
-          → Inserted (kind_of k) n (take (length word - (i + 1)) (drop (i + 1) word)) s families' places' lengths'
-          (take (size + 1) (set work size (get_or word i 0))) s'' families'' places'' lengths'' after size''
-          → length after ≡ length (take (size + 1) (set work size (get_or word i 0)))
-          → length families'' ≡ length families' → length places'' ≡ length places' → length lengths'' ≡ length lengths'
-          → Making (kind_of k) n word families places lengths work₀ (i + 1) s'' families'' places'' lengths''
-          (after ++ drop (size + 1) (set work size (get_or word i 0))) size''
-      making_next {s''} {families''} {places''} {lengths''} {after} {size''} c q x y z =
-          let v : List ℕ = drop (size + 1) (set work size letter) in
-          let t : take size'' (after ++ v) ≡ take size'' after = take-append-le size'' after v (omega (arith, c.inside)) in
-          record {
-            inside = omega arith;
-            short = omega (arith, c.inside, lent_length, m.short);
-            work_size =
-                length-append after v
-                ∙ omega (arith, lent_length, length-drop (size + 1) (set work size letter), length-set work size letter, m.work_size, making_room);
-            families_size = x ∙ m.families_size;
-            places_size = y ∙ m.places_size;
-            lengths_size = z ∙ m.lengths_size;
-            normal = rw t c.normal;
-            same = all ∙ c.same ∙ rw (t, rest_is);
+            as_places = p;
+            as_lengths = z;
           }
 
     -- ---- the end
 
-    pub making_end : length word ≤ i → length word ≤ length work₀ → Made (kind_of k) n word families places lengths s families' places' lengths' work size
-    making_end g f = record {
+    pub making_end : length word ≤ i → length word ≤ length work₀ → Made kind n word families places lengths s families' places' lengths' work size
+    making_end l f = record {
       inside = omega (arith, m.short, m.inside, m.work_size);
       all =
-          m.same ∙ ap (finish kind n s families' places' lengths') (ap (λ (w : List ℕ). form ++ w) (drop_of_length-le word g) ∙ append-nil form)
+          m.same ∙ ap (finish kind n s families' places' lengths') (ap (λ (v : List ℕ). form ++ v) (drop_of_length-le word l) ∙ append-nil form)
           ∙ finish_end s families' places' lengths' kind n rank.0 form m.normal;
     }
 

@@ -9,7 +9,7 @@ use lib.Seq.{drop-drop, sets-eq}
 use Rattle.book.proofs.numbers.copy_to.Goals as goal
 
 pub returns : goal.returns
-returns c =
+returns g c =
     let l = c.args.out.now in
     let u = c.args.part.now in
     let p = c.args.p in

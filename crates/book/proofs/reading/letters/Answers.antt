@@ -1,39 +1,21 @@
 -- `reading::letters` is the part of the book that `check_preset` names, or the empty part at its front.
 -- Assumes nothing.
-use mathlib.Core.Path.{refl, sym, ◌∙◌}
+use mathlib.Core.Path.{refl}
 use native.Mathlib.Omega.{arith}
-use Rattle.book_format.proofs.PresetLaws.{PresetFound, found, found_inside, found_small, letters_of-found, letters_start-found}
+use Rattle.book_format.proofs.PresetLaws.{found, found_inside, found_small, letters_of-found, letters_start-found}
 use Rattle.book_format.proofs.PresetLaws.{refused, letters_of-refused, letters_start-refused}
 use Rattle.book.proofs.reading.letters.Goals as goal
 
-pub overflow_add-end : goal.overflow_add-end
-overflow_add-end c =
-    -- the preset that was found
-    let at : let a = c.args in
-    let g = c.in-Found in
-    PresetFound a.edition a.book.now a.number g.kind g.rank g.start g.letter_count =
-    found (sym c.in-Found.is ∙ c.check_preset.ensures) in
-    let h = found_small (at) in omega arith
+pub overflow_add-result : goal.overflow_add-result
+overflow_add-result c = let h = found_small (found c.in-Ok.ensures) in omega arith
 
 pub slice_bounds-result-end : goal.slice_bounds-result-end
-slice_bounds-result-end c =
-    -- the preset that was found
-    let at : let a = c.args in
-    let g = c.in-Found in
-    PresetFound a.edition a.book.now a.number g.kind g.rank g.start g.letter_count =
-    found (sym c.in-Found.is ∙ c.check_preset.ensures) in
-    found_inside (at)
+slice_bounds-result-end c = found_inside (found c.in-Ok.ensures)
 
-pub returns-in-Found : goal.returns-in-Found
-returns-in-Found c =
-    -- the preset that was found
-    let at : let a = c.args in
-    let g = c.in-Found in
-    PresetFound a.edition a.book.now a.number g.kind g.rank g.start g.letter_count =
-    found (sym c.in-Found.is ∙ c.check_preset.ensures) in
-    let f = at in record { result_value = letters_of-found f; ref_ptr_value = (refl, letters_start-found _ f) }
+pub returns-in-Ok : goal.returns-in-Ok
+returns-in-Ok c = let f = found c.in-Ok.ensures in record { result_value = letters_of-found f; ref_ptr_value = (refl, letters_start-found _ f) }
 
-pub returns-in-Refused : goal.returns-in-Refused
-returns-in-Refused c =
-    let f = refused _ _ _ _ (sym c.in-Refused.is ∙ c.check_preset.ensures) in
+pub returns-in-Err : goal.returns-in-Err
+returns-in-Err c =
+    let f = refused _ _ _ _ c.in-Err.ensures in
     record { result_value = letters_of-refused _ _ _ f; ref_ptr_value = (refl, letters_start-refused _ _ _ _ f) }

@@ -1,13 +1,13 @@
--- `records::is_retired`, by whether the kind is A.
+-- `records::is_retired`, by cases on the kind.
 -- Assumes nothing.
-use borrow.Author.Tests.{eq-eqb, ne_eqb}
+use borrow.Author.Rules.{rules}
 use Rattle.book_format.specs.Books.{retired}
 use Rattle.book.proofs.records.is_retired.Goals as goal
 
-pub returns-then-kind-eq1 : goal.returns-then-kind-eq1
+pub returns-in-A : goal.returns-in-A
 unfolding retired
-returns-then-kind-eq1 c = rw (eq-eqb _ 1 c.if-kind-eq1.true)
+returns-in-A c = rw c.in-A.is (search rules)
 
-pub returns : goal.returns
+pub returns-in-B : goal.returns-in-B
 unfolding retired
-returns c = rw (ne_eqb _ 1 c.if-kind-eq1.false)
+returns-in-B c = search rules

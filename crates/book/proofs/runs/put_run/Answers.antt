@@ -1,44 +1,14 @@
 -- What `search` leaves open of the proof of `runs::put_run`.
-use mathlib.Core.Path.{refl, sym, ◌∙◌}
+use mathlib.Core.Path.{sym, ◌∙◌}
 use native.Mathlib.Omega.{arith}
-use Rattle.book_format.proofs.BookLaws.{accepted}
-use Rattle.book.proofs.runs.StoredRuns.{run_start, run_step, run_end}
+use Rattle.book.proofs.runs.StoredRuns.{run_step, run_end}
 use Rattle.book.proofs.runs.put_run.Goals as goal
-
-pub loop-i-init : goal.loop-i-init
-loop-i-init c = (omega arith, refl, run_start _ _ _ _ _)
-
-pub overflow_add-first : goal.overflow_add-first
-overflow_add-first c =
-    let pre = c.requires in
-    omega (arith, (accepted _ _ pre.0).inside, (accepted _ _ pre.0).longer, (accepted _ _ pre.0).most, pre.1)
-
-pub numbered_preset-requires : goal.numbered_preset-requires
-numbered_preset-requires c =
-    sym c.requires.0
-
-pub overflow_mul-i : goal.overflow_mul-i
-overflow_mul-i c = omega (arith, c.requires.2)
-
-pub put_preset-requires : goal.put_preset-requires
-put_preset-requires c =
-    omega (arith, c.requires.2, c.loop-i.invariant.1, c.loop-i-test.true)
-
-pub overflow_add-i : goal.overflow_add-i
-overflow_add-i c = omega arith
-
-pub loop-i-smaller : goal.loop-i-smaller
-loop-i-smaller c = omega arith
 
 pub loop-i-preserved : goal.loop-i-preserved
 loop-i-preserved c =
     let inv = c.loop-i.invariant in
-    let put = c.put_preset in
-    let answer = c.numbered_preset in
-    (omega arith, put.auto.fields ∙ inv.1, inv.2 ∙ run_step _ _ _ _ _ _ c.loop-i-test.true answer.ensures put.ensures)
-
-pub shape_of-fields : goal.shape_of-fields
-shape_of-fields c = c.loop-i.invariant.1
+    let put = rw c.numbers_of.ensures at c.copy_to.ensures in
+    (omega arith, c.copy_to.auto.out ∙ inv.1, inv.2 ∙ run_step _ _ _ _ _ _ c.loop-i-test.true c.preset.ensures put)
 
 pub returns : goal.returns
 returns c = let inv = c.loop-i.invariant in sym (inv.2 ∙ run_end _ _ _ _ _ _ c.loop-i-test.false)

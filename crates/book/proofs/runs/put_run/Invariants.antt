@@ -11,7 +11,4 @@ use Rattle.book.proofs.runs.put_run.Given as goal
 abbrev pub invariant-loop-i : goal.invariant-loop-i
 invariant-loop-i l =
     (l.i ≤ l.n) × (length l.fields ≡ length l.initial.fields)
-    × (sets l.initial.fields 0 (preset_fields l.edition l.book l.n l.first) ≡ sets l.fields (5 * l.i) (preset_fields l.edition l.book (l.n - l.i) (l.first + l.i)))
-
-abbrev pub decreases-loop-i : goal.decreases-loop-i
-decreases-loop-i l = l.n - l.i
+    × (sets l.initial.fields 0 (preset_fields l.book.edition l.book.bytes.now l.n l.first) ≡ sets l.fields (5 * l.i) (preset_fields l.book.edition l.book.bytes.now (l.n - l.i) (l.first + l.i)))

@@ -1,35 +1,30 @@
 -- `runs::read_presets` makes checks 1 to 4 and 14 in this order, and then writes as many presets as there are and
 -- have room.
 -- Assumes nothing.
-use mathlib.Core.Path.{sym, ◌∙◌}
-use native.Mathlib.Omega.{arith}
-use Rattle.book_format.proofs.BookLaws.{never_one}
+use mathlib.Core.Path.{refl, ap, ◌∙◌}
+use Rattle.coxeter.specs.answers.Answer.{as_answer}
+use Rattle.coxeter.proofs.Groups.{number_positive}
 use Rattle.book_format.proofs.RunLaws.{reading_book, reading_number, reading_short, reading_run}
-use Rattle.book.proofs.runs.StoredRuns.{run_fits}
+use Rattle.book.proofs.Results.{refused_with}
 use Rattle.book.proofs.runs.read_presets.Goals as goal
 
-pub returns-then-refusal-ne0 : goal.returns-then-refusal-ne0
-returns-then-refusal-ne0 c = reading_book _ _ _ _ c.book_refusal-refusal.ensures c.if-refusal-ne0.true
+pub returns-in_err-book : goal.returns-in_err-book
+returns-in_err-book c =
+    let h = reading_book _ _ _ _ c.in_err-book.ensures.refusal (number_positive _) in
+    (ap as_answer (refused_with _ _ c.from_residual.ensures) ∙ h.0, h.1)
 
-pub count_of-c-requires : goal.count_of-c-requires
-count_of-c-requires c = never_one _ _ (sym c.book_refusal-refusal.ensures ∙ c.if-refusal-ne0.false)
-
-pub returns-then-c-first : goal.returns-then-c-first
-returns-then-c-first c =
-    reading_number _ _ _ _ c.book_refusal-refusal.ensures c.if-refusal-ne0.false c.count_of-c.ensures.0 c.if-c-first.true
+pub returns-then-book-first : goal.returns-then-book-first
+returns-then-book-first c =
+    let k = c.in_ok-book.ensures in
+    reading_number _ _ _ _ k.refusal refl (rw k.book.1 at c.in_ok-book.book.counted) c.if-book-first.true
 
 pub returns-then-fields-lt5 : goal.returns-then-fields-lt5
 returns-then-fields-lt5 c =
-    reading_short _ _ _ _ c.book_refusal-refusal.ensures c.if-refusal-ne0.false c.count_of-c.ensures.0 c.if-c-first.false c.if-fields-lt5.true
-
-pub put_run-requires : goal.put_run-requires
-put_run-requires c =
-    let fits = run_fits _ _ _ _ c.smaller_of-n.ensures c.if-c-first.false in
-    let e = c.count_of-c.ensures.0 in
-    (sym c.book_refusal-refusal.ensures ∙ c.if-refusal-ne0.false, omega (arith, fits.0), fits.1)
+    let k = c.in_ok-book.ensures in
+    reading_short _ _ _ _ k.refusal refl (rw k.book.1 at c.in_ok-book.book.counted) c.if-book-first.false c.if-fields-lt5.true
 
 pub returns : goal.returns
 returns c =
-    reading_run _ _ _ _ c.book_refusal-refusal.ensures c.if-refusal-ne0.false c.count_of-c.ensures.0 c.if-c-first.false
-    c.if-fields-lt5.false
-    c.smaller_of-n.ensures c.put_run.ensures
+    let k = c.in_ok-book.ensures in
+    reading_run _ _ _ _ k.refusal refl (rw k.book.1 at c.in_ok-book.book.counted) c.if-book-first.false c.if-fields-lt5.false c.min-n.ensures
+    (rw (k.book.0, k.book.1) at c.put_run.ensures)

@@ -1,25 +1,21 @@
--- What `search` leaves open of the proof of `runs::read_run`.
-use mathlib.Core.Path.{refl, ap, ◌∙◌}
-use native.Mathlib.Nat.{min-le_right}
-use native.Mathlib.Omega.{arith}
-use Rattle.book.proofs.runs.StoredRuns.{first_stored_none, first_stored_next, presets_whole, preset_from}
+-- `runs::read_run` reads the presets of an accepted book, or refuses each.
+-- Assumes nothing.
+use mathlib.Core.Path.{refl, sym, ◌∙◌}
+use Rattle.coxeter.proofs.Groups.{number_positive}
+use Rattle.book_format.proofs.PresetLaws.{checked_book-refused, checked_book_presets}
+use Rattle.book.proofs.runs.StoredRuns.{all_refused, run_from}
 use Rattle.book.proofs.runs.read_run.Goals as goal
 
-pub loop-i-init : goal.loop-i-init
-loop-i-init c = first_stored_none _ _ _ _ c.slots_128-presets.ensures
+pub returns-in-Ok : goal.returns-in-Ok
+returns-in-Ok c =
+    let b = c.in-Ok.book in
+    let same = c.in-Ok.ensures.book in (
+      rw (same.0, same.1) at (sym (checked_book_presets _ _ _ _ (sym b.accepted) refl b.counted)),
+      refl,
+      rw (same.0, same.1) at c.presets_from.ensures ∙ run_from _ _ _ _ 128 c.min.ensures,
+    )
 
-pub overflow_add-start : goal.overflow_add-start
-overflow_add-start c =
-    omega (arith, c.smaller_of-start.ensures, min-le_right c.args.first 65535)
-
-pub loop-i-smaller : goal.loop-i-smaller
-loop-i-smaller c = omega arith
-
-pub loop-i-preserved : goal.loop-i-preserved
-loop-i-preserved c =
-    let read = c.numbered_preset-preset.ensures ∙ preset_from _ _ _ _ _ c.smaller_of-start.ensures in
-    first_stored_next _ _ _ c.loop-i.invariant c.loop-i-test.true (ap (λ p. record { preset = p }) read)
-
-pub returns : goal.returns
-returns c =
-    (c.opened_by-opened.ensures, refl, presets_whole _ c.loop-i.invariant c.loop-i-test.false)
+pub returns-in-Err : goal.returns-in-Err
+returns-in-Err c =
+    let e = c.in-Err.ensures.refusal in
+    (sym (checked_book-refused _ _ _ e (number_positive _)), refl, all_refused _ _ _ 128 _ e)

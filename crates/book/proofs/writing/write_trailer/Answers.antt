@@ -5,4 +5,4 @@ use Rattle.book.proofs.writing.write_trailer.Goals as goal
 
 pub returns : goal.returns
 returns c =
-    trailer-written _ _ _ _ _ c.requires.0 c.copy_to.ensures c.put_two.ensures c.put_two-2.ensures
+    trailer-written _ _ _ _ _ c.args.book.now.fits c.copy_to.ensures c.put_two.ensures c.put_two-2.ensures

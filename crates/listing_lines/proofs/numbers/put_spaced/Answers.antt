@@ -1,6 +1,5 @@
 -- `numbers::put_spaced` stores the space, and then the number.
 -- Assumes nothing.
-use mathlib.Core.Path.{◌∙◌}
 use native.Mathlib.Omega.{arith}
 use lib.ListN.{length-set}
 use Rattle.listing_lines.proofs.numbers.Puts.{length-spaced, put-spaced}
@@ -11,9 +10,6 @@ bounds-out-at c = omega (arith, length-spaced c.args.x)
 
 pub put_decimal-requires : goal.put_decimal-requires
 put_decimal-requires c = simp length-set (omega (arith, length-spaced c.args.x))
-
-pub shape_of-out : goal.shape_of-out
-shape_of-out c = c.put_decimal.auto.out ∙ simp length-set
 
 pub returns : goal.returns
 returns c = put-spaced _ _ _ _ _ c.put_decimal.ensures

@@ -1,42 +1,36 @@
--- `presets::put_preset` puts the line of the word that was found, or that of the refusal.
+-- `presets::put_preset` puts the line of what reading the preset returned. A preset that was found passed its checks,
+-- and its letters lie in the book.
 -- Assumes nothing.
-use mathlib.Core.Path.{sym, ◌∙◌}
+use mathlib.Core.Path.{sym, ap, ◌∙◌}
 use native.Mathlib.Omega.{arith}
-use Rattle.book_format.proofs.PresetLaws.{PresetFound, found, found_rank, found_word, found_inside, found_small}
+use Rattle.coxeter.specs.Kinds.{kind_number}
+use Rattle.book_format.specs.answers.Preset.{as_preset}
+use Rattle.book_format.proofs.PresetLaws.{PresetFound, found, found_word, found_inside, found_small}
 use Rattle.listing_lines.proofs.presets.PresetLines.{line_by-found, line_by-refused}
 use Rattle.listing_lines.proofs.presets.put_preset.Goals as goal
+use Rattle.listing_lines.proofs.presets.put_preset.Goals.{In-Ok}
 
-pub put_refused-requires : goal.put_refused-requires
-put_refused-requires c =
-    rw (line_by-refused c.args.book.now c.args.number _ c.in_default.is c.refusal_of.ensures) c.requires.1.1
+-- the preset that was found
+preset : (c : In-Ok) → let p = c.in-Ok.preset in PresetFound c.requires.0 c.args.book.now c.args.number (kind_number p.group.kind) p.group.rank p.start p.length
+preset c = found (ap as_preset (sym c.in-Ok.is) ∙ c.requires.1.0)
 
-pub returns-in_default : goal.returns-in_default
-returns-in_default c =
-    rw (line_by-refused c.args.book.now c.args.number _ c.in_default.is c.refusal_of.ensures) at
-    c.put_refused.ensures
+pub overflow_add-letters : goal.overflow_add-letters
+overflow_add-letters c = record { fits = omega (arith, found_small (preset (goal.at.overflow_add-letters c).In-Ok)) }
 
-pub overflow_add-end : goal.overflow_add-end
-overflow_add-end c =
-    -- the preset that was found
-    let preset : PresetFound c.requires.0 c.args.book.now c.args.number c.in-Found.kind c.in-Found.rank c.in-Found.start c.in-Found.letter_count =
-    found (sym c.in-Found.is ∙ c.requires.1.0) in
-    omega (arith, found_small preset)
+pub slice_bounds-letters-end : goal.slice_bounds-letters-end
+slice_bounds-letters-end c = found_inside (preset (goal.at.slice_bounds-letters-end c).In-Ok)
 
-pub slice_bounds-put_word-end : goal.slice_bounds-put_word-end
-slice_bounds-put_word-end c =
-    -- the preset that was found
-    let preset : PresetFound c.requires.0 c.args.book.now c.args.number c.in-Found.kind c.in-Found.rank c.in-Found.start c.in-Found.letter_count =
-    found (sym c.in-Found.is ∙ c.requires.1.0) in
-    found_inside preset
+pub invariant_of-put_word : goal.invariant_of-put_word
+invariant_of-put_word c = record { accepted = found_word (preset (goal.at.invariant_of-put_word c).In-Ok) }
 
 pub put_word-requires : goal.put_word-requires
-put_word-requires c =
-    -- the preset that was found
-    let preset : PresetFound c.requires.0 c.args.book.now c.args.number c.in-Found.kind c.in-Found.rank c.in-Found.start c.in-Found.letter_count =
-    found (sym c.in-Found.is ∙ c.requires.1.0) in
-    let f = preset in
-    (found_rank f, found_word f, rw (line_by-found _ _ c.in-Found.is) c.requires.1.1)
+put_word-requires c = rw (line_by-found c.args.book.now c.args.number _ c.in-Ok.is) c.requires.1.1
+
+pub put_refused-requires : goal.put_refused-requires
+put_refused-requires c = rw (line_by-refused c.args.book.now c.args.number _ c.unwrap_err.ensures) c.requires.1.1
+
+pub returns-in_default : goal.returns-in_default
+returns-in_default c = rw (line_by-refused c.args.book.now c.args.number _ c.unwrap_err.ensures) at c.put_refused.ensures
 
 pub returns : goal.returns
-returns c =
-    rw (line_by-found _ _ c.in-Found.is) at c.put_word.ensures
+returns c = rw (line_by-found c.args.book.now c.args.number _ c.in-Ok.is) at c.put_word.ensures

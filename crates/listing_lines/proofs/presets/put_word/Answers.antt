@@ -4,73 +4,58 @@
 use mathlib.Core.Path.{sym}
 use Prim.Native.Nat.{◌≤◌}
 use native.Mathlib.Omega.{arith}
-use lib.ListN.{length}
+use lib.IntN.{pos}
+use lib.ListN.{length, replicate}
 use lib.Seq.{length-take-le}
-use Rattle.coxeter.specs.Kinds.{kind_of}
 use Rattle.coxeter.specs.Windows.{window}
 use Rattle.coxeter.specs.NormalForm.{word_normal_form}
-use Rattle.coxeter.proofs.Fronts.{AtFront, form_front, form_never, window-front, window_never}
-use Rattle.listing_lines.proofs.presets.PresetLines.{word_line_room, word_line-put}
+use Rattle.coxeter.proofs.Writes.{Wrote, wrote}
+use Rattle.listing_lines.proofs.presets.PresetLines.{form_le, window_le, never_refused, word_line_room, word_line-put}
 use Rattle.listing_lines.proofs.presets.put_word.Goals as goal
+use Rattle.listing_lines.proofs.presets.put_word.Goals.{In-Ok, In-Ok-write_window}
+
+-- the normal form in its buffer
+form : (c : In-Ok) → let g = c.args.word.group in Wrote 0 (word_normal_form g.kind g.rank c.args.word.letters.now) c.buffer-form.result c.write_form_of_word.new.out c.in-Ok.l
+form c = wrote _ _ _ _ _ c.in-Ok.ensures
+
+form_inside : (c : In-Ok) → c.in-Ok.l ≤ length c.write_form_of_word.new.out
+form_inside c = omega (arith, (form c).room, c.write_form_of_word.auto.out)
+
+-- the window in its buffer
+shown : (c : In-Ok-write_window) → let g = c.args.word.group in Wrote 0 (window g.kind g.rank c.args.word.letters.now) (replicate 64 (pos 0)) c.write_window.new.out c.in-Ok-write_window.m
+shown c = wrote _ _ _ _ _ c.in-Ok-write_window.ensures
+
+shown_inside : (c : In-Ok-write_window) → c.in-Ok-write_window.m ≤ length c.write_window.new.out
+shown_inside c = omega (arith, (shown c).room, c.write_window.auto.out)
 
 pub returns-in_default : goal.returns-in_default
 returns-in_default c =
-    absurd
-    (form_never _ _ _ c.requires.0 c.requires.1 _ _ _ c.buffer-form.ensures c.normal_form_of_word.ensures _ c.in_default.is)
+    absurd (never_refused _ _ _ _ (omega (arith, form_le _ _ c.args.word.group.in_range c.args.word.letters.now, c.buffer-form.ensures)) c.in_default.ensures)
 
-pub returns-in_default-window_of_word : goal.returns-in_default-window_of_word
-returns-in_default-window_of_word c =
+pub returns-in_default-write_window : goal.returns-in_default-write_window
+returns-in_default-write_window c =
     absurd
-    (window_never _ _ _ c.requires.0 c.requires.1 _ _ c.entries_64-shown.ensures _ c.window_of_word.ensures _ c.in_default-window_of_word.is)
+    (never_refused _ _ _ _ (omega (arith, window_le _ _ c.args.word.group.in_range c.args.word.letters.now))
+    c.in_default-write_window.ensures)
 
 pub slice_bounds-form-end : goal.slice_bounds-form-end
-slice_bounds-form-end c =
-    -- the normal form in its buffer
-    let form : AtFront 4096 (word_normal_form (kind_of c.args.kind) c.args.rank c.args.word.now) c.normal_form_of_word.new.out c.in-Length.l =
-    form_front _ _ _ c.requires.0 c.requires.1 _ _ _ c.buffer-form.ensures c.normal_form_of_word.ensures _ c.in-Length.is in
-    omega (arith, form.bound, c.buffer-form.ensures, c.normal_form_of_word.auto.out)
+slice_bounds-form-end c = form_inside (goal.at.slice_bounds-form-end c).In-Ok
 
 pub slice_bounds-put_line-end : goal.slice_bounds-put_line-end
-slice_bounds-put_line-end c =
-    -- the normal form in its buffer
-    let form : AtFront 4096 (word_normal_form (kind_of c.args.kind) c.args.rank c.args.word.now) c.normal_form_of_word.new.out c.in-Length.l =
-    form_front _ _ _ c.requires.0 c.requires.1 _ _ _ c.buffer-form.ensures c.normal_form_of_word.ensures _ c.in-Length.is in
-    let inside : c.in-Length.l ≤ length c.normal_form_of_word.new.out =
-    omega (arith, form.bound, c.buffer-form.ensures, c.normal_form_of_word.auto.out) in
-    sym (length-take-le _ _ inside)
+slice_bounds-put_line-end c = sym (length-take-le _ _ (form_inside (goal.at.slice_bounds-put_line-end c).In-Ok))
 
 pub slice_bounds-shown-end : goal.slice_bounds-shown-end
-slice_bounds-shown-end c =
-    -- the window in its buffer
-    let shown : AtFront 64 (window (kind_of c.args.kind) c.args.rank c.args.word.now) c.window_of_word.new.out c.in-Length-window_of_word.m =
-    window-front _ _ _ c.requires.0 c.requires.1 _ _ c.entries_64-shown.ensures _ c.window_of_word.ensures _ c.in-Length-window_of_word.is in
-    omega (arith, shown.bound, c.entries_64-shown.ensures, c.window_of_word.auto.out)
+slice_bounds-shown-end c = shown_inside (goal.at.slice_bounds-shown-end c).In-Ok-write_window
 
 pub slice_bounds-put_line-end-2 : goal.slice_bounds-put_line-end-2
-slice_bounds-put_line-end-2 c =
-    -- the window in its buffer
-    let shown : AtFront 64 (window (kind_of c.args.kind) c.args.rank c.args.word.now) c.window_of_word.new.out c.in-Length-window_of_word.m =
-    window-front _ _ _ c.requires.0 c.requires.1 _ _ c.entries_64-shown.ensures _ c.window_of_word.ensures _ c.in-Length-window_of_word.is in
-    let inside : c.in-Length-window_of_word.m ≤ length c.window_of_word.new.out =
-    omega (arith, shown.bound, c.entries_64-shown.ensures, c.window_of_word.auto.out) in
-    sym (length-take-le _ _ inside)
+slice_bounds-put_line-end-2 c = sym (length-take-le _ _ (shown_inside (goal.at.slice_bounds-put_line-end-2 c).In-Ok-write_window))
 
 pub put_line-requires : goal.put_line-requires
 put_line-requires c =
-    -- the normal form in its buffer
-    let form : AtFront 4096 (word_normal_form (kind_of c.args.kind) c.args.rank c.args.word.now) c.normal_form_of_word.new.out c.in-Length.l =
-    form_front _ _ _ c.requires.0 c.requires.1 _ _ _ c.buffer-form.ensures c.normal_form_of_word.ensures _ c.in-Length.is in
-    -- the window in its buffer
-    let shown : AtFront 64 (window (kind_of c.args.kind) c.args.rank c.args.word.now) c.window_of_word.new.out c.in-Length-window_of_word.m =
-    window-front _ _ _ c.requires.0 c.requires.1 _ _ c.entries_64-shown.ensures _ c.window_of_word.ensures _ c.in-Length-window_of_word.is in
-    word_line_room _ _ _ _ _ form.part shown.part c.requires.2
+    let at = goal.at.put_line-requires c in
+    word_line_room _ _ _ _ _ (form at.In-Ok).front (shown at.In-Ok-write_window).front c.requires
 
 pub returns : goal.returns
 returns c =
-    -- the normal form in its buffer
-    let form : AtFront 4096 (word_normal_form (kind_of c.args.kind) c.args.rank c.args.word.now) c.normal_form_of_word.new.out c.in-Length.l =
-    form_front _ _ _ c.requires.0 c.requires.1 _ _ _ c.buffer-form.ensures c.normal_form_of_word.ensures _ c.in-Length.is in
-    -- the window in its buffer
-    let shown : AtFront 64 (window (kind_of c.args.kind) c.args.rank c.args.word.now) c.window_of_word.new.out c.in-Length-window_of_word.m =
-    window-front _ _ _ c.requires.0 c.requires.1 _ _ c.entries_64-shown.ensures _ c.window_of_word.ensures _ c.in-Length-window_of_word.is in
-    word_line-put _ _ _ _ _ _ form.part shown.part c.put_line.ensures
+    let at = goal.at.returns c in
+    word_line-put _ _ _ _ _ _ (form at.In-Ok).front (shown at.In-Ok-write_window).front c.put_line.ensures

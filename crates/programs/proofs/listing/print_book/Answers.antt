@@ -1,9 +1,7 @@
 -- `listing::print_book` is safe, since a piece ends inside the buffer, and ends, since a piece leaves fewer lines.
 -- Assumes nothing.
 use mathlib.Core.Path.{sym}
-use Prim.Native.Nat.{◌≤◌}
 use native.Mathlib.Omega.{arith}
-use lib.ListN.{length}
 use lib.Seq.{length-take-le}
 use Rattle.listing_text.proofs.Pieces.{piece_inside}
 use Rattle.listing_text.proofs.Room.{piece_falls}
@@ -14,11 +12,8 @@ slice_bounds-out-end g c = omega (arith, piece_inside _ _ _ _ _ c.next_piece-pie
 
 pub slice_bounds-print-end : goal.slice_bounds-print-end
 slice_bounds-print-end g c =
-    -- a piece ends inside the buffer, which keeps its size
-    let inside : c.next_piece-piece.result.end ≤ length c.next_piece-piece.new.out =
-    omega (arith, piece_inside _ _ _ _ _ c.next_piece-piece.ensures.0, c.next_piece-piece.auto.out) in
-    sym (length-take-le _ _ inside)
+    sym (length-take-le _ _ (omega (arith, piece_inside _ _ _ _ _ c.next_piece-piece.ensures.0, c.next_piece-piece.auto.out)))
 
 pub loop-edition-smaller : goal.loop-edition-smaller
 loop-edition-smaller g c =
-    piece_falls _ _ _ _ _ c.next_piece-piece.ensures.0 (omega (arith, c.loop-edition.invariant)) c.if-left-eq0.false
+    piece_falls _ _ _ _ _ c.next_piece-piece.ensures.0 (omega (arith, c.loop-edition.invariant)) c.if-piece-eq0.false

@@ -5,6 +5,7 @@ use mathlib.Core.Path.{◌≡◌}
 use mathlib.Core.List.{List}
 use Prim.Native.Nat.{ℕ, ◌≤◌}
 use lib.ListN.{length, get_or}
+use Rattle.coxeter.specs.NormalForm.{levels}
 use Rattle.rewriter.proofs.carrying.Shifting.{put, CommutesFrom}
 use Rattle.rewriter.proofs.carrying.shift.Given as goal
 
@@ -16,7 +17,4 @@ pub record Shifted (rank levels : ℕ) (word₀ : List ℕ) (q x : ℕ) (word : 
   pub commute : CommutesFrom rank levels word₀ q x t
 
 abbrev pub invariant-loop-t : goal.invariant-loop-t
-invariant-loop-t l = Shifted l.rank l.levels l.initial.word l.q l.x l.word l.t
-
-abbrev pub decreases-loop-t : goal.decreases-loop-t
-decreases-loop-t l = l.t
+invariant-loop-t l = Shifted l.group.rank (levels l.group.kind l.group.rank) l.initial.word l.q l.x l.word l.t

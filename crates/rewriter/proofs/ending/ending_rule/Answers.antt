@@ -3,8 +3,7 @@
 -- Assumes nothing.
 use mathlib.Core.Path.{sym, ◌∙◌}
 use native.Mathlib.Omega.{arith}
-use Rattle.traces.proofs.Reading.{reading_inside}
-use Rattle.rewriter.proofs.ending.Ends.{one, ending_front, ending_square, ending_other}
+use Rattle.rewriter.proofs.ending.Ends.{one, min_lower, ending_front, ending_square, ending_other}
 use Rattle.rewriter.proofs.ending.BlockEnds.{size_there, index_small, ending_block}
 use Rattle.rewriter.proofs.ending.ending_rule.Goals as goal
 
@@ -12,50 +11,34 @@ pub returns-then-q-eq0 : goal.returns-then-q-eq0
 returns-then-q-eq0 c =
     ending_front c.requires.least_le c.requires.reading c.if-q-eq0.true
 
-pub bounds-word-q : goal.bounds-word-q
-bounds-word-q c =
-    omega (arith, reading_inside _ _ c.requires.least_le _ _ c.requires.reading)
-
-pub bounds-word-q-2 : goal.bounds-word-q-2
-bounds-word-q-2 c =
-    reading_inside _ _ c.requires.least_le _ _ c.requires.reading
-
 pub returns-then-l-x : goal.returns-then-l-x
 returns-then-l-x c =
     ending_square _ _ c.requires.least_le _ _ c.requires.reading (one c.if-q-eq0.false) c.if-l-x.true
 
-pub place_of-place-requires : goal.place_of-place-requires
-place_of-place-requires c =
-    record { ranked = (c.requires.least_le, c.requires.rank_le); reading = (c.requires.reading, one c.if-q-eq0.false, reading_inside _ _ c.requires.least_le _ _ c.requires.reading, c.requires.place_le) }
-
-pub bounds-word-place : goal.bounds-word-place
-bounds-word-place c =
-    omega (arith, reading_inside _ _ c.requires.least_le _ _ c.requires.reading, c.place_of-place.ensures.0)
-
 pub returns-then-word-place : goal.returns-then-word-place
 returns-then-word-place c =
     ending_other _ _ c.requires.least_le _ _ c.requires.reading (one c.if-q-eq0.false) _ c.place_of-place.ensures c.if-l-x.false
-    (c.requires.stays (one c.if-q-eq0.false)) (λ e. c.if-word-place.true (e ∙ sym c.lower_of-low.ensures))
+    (c.requires.stays (one c.if-q-eq0.false)) (λ e. c.if-word-place.true (e ∙ sym (c.min-low.ensures ∙ min_lower _ _)))
 
 pub overflow_cast-q : goal.overflow_cast-q
 overflow_cast-q c =
     let z = size_there c.requires.least_le c.requires.reading (one c.if-q-eq0.false) _ c.place_of-place.ensures c.if-l-x.false
-    (c.requires.stays (one c.if-q-eq0.false)) (c.if-word-place.false ∙ c.lower_of-low.ensures) c.requires.rank_le in
+    (c.requires.stays (one c.if-q-eq0.false)) (c.if-word-place.false ∙ (c.min-low.ensures ∙ min_lower _ _)) c.requires.rank_le in
     omega (arith, z)
 
 pub index_of-j-requires : goal.index_of-j-requires
 index_of-j-requires c =
     let z = size_there c.requires.least_le c.requires.reading (one c.if-q-eq0.false) _ c.place_of-place.ensures c.if-l-x.false
-    (c.requires.stays (one c.if-q-eq0.false)) (c.if-word-place.false ∙ c.lower_of-low.ensures) c.requires.rank_le in
-    (c.requires.rank_le, rw c.lower_of-low.ensures z.0, z.1, z.2)
+    (c.requires.stays (one c.if-q-eq0.false)) (c.if-word-place.false ∙ (c.min-low.ensures ∙ min_lower _ _)) c.requires.rank_le in
+    (rw (c.min-low.ensures ∙ min_lower _ _) z.0, z.1, z.2)
 
 pub block_rule-requires : goal.block_rule-requires
 block_rule-requires c =
     let z = index_small c.requires.least_le c.requires.reading (one c.if-q-eq0.false) _ c.place_of-place.ensures c.if-l-x.false
-    (c.requires.stays (one c.if-q-eq0.false)) (c.if-word-place.false ∙ c.lower_of-low.ensures) _ _ c.lower_of-low.ensures c.index_of-j.ensures in
-    record { ranked = (c.requires.least_le, c.requires.rank_le); i_le_rank = z }
+    (c.requires.stays (one c.if-q-eq0.false)) (c.if-word-place.false ∙ (c.min-low.ensures ∙ min_lower _ _)) _ _ (c.min-low.ensures ∙ min_lower _ _) c.index_of-j.ensures in
+    z
 
 pub returns : goal.returns
 returns c =
     ending_block c.requires.least_le c.requires.reading (one c.if-q-eq0.false) _ c.place_of-place.ensures c.if-l-x.false
-    (c.requires.stays (one c.if-q-eq0.false)) (c.if-word-place.false ∙ c.lower_of-low.ensures) c.lower_of-low.ensures c.index_of-j.ensures c.block_rule.ensures
+    (c.requires.stays (one c.if-q-eq0.false)) (c.if-word-place.false ∙ (c.min-low.ensures ∙ min_lower _ _)) (c.min-low.ensures ∙ min_lower _ _) c.index_of-j.ensures c.block_rule.ensures

@@ -5,6 +5,3 @@ use Rattle.rewriter.proofs.ending.start_of.Given as goal
 
 abbrev pub invariant-loop-t : goal.invariant-loop-t
 invariant-loop-t l = LettersAbove l.word l.from l.i l.t
-
-abbrev pub decreases-loop-t : goal.decreases-loop-t
-decreases-loop-t l = l.t

@@ -5,5 +5,4 @@ use Rattle.coxeter.proofs.Acceptance.{length_accepted}
 use Rattle.rewriter.proofs.tracing.count.Goals as goal
 
 pub count_in-requires-2 : goal.count_in-requires-2
-count_in-requires-2 c =
-    record { accepted_word = c.requires; word_in_bounds = omega (arith, length_accepted _ _ c.requires.word, c.letters_4096-work.ensures) }
+count_in-requires-2 c = record { word_in_bounds = (length_accepted _ _ c.args.word.accepted, omega arith) }

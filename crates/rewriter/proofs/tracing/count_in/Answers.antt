@@ -4,5 +4,5 @@ use Rattle.rewriter.proofs.tracing.Making.{made_steps, made_size}
 use Rattle.rewriter.proofs.tracing.count_in.Goals as goal
 
 pub returns : goal.returns
-returns c =
+returns g c =
     (made_steps c.make.ensures, made_size c.make.ensures)

@@ -4,12 +4,12 @@ use Rattle.window.proofs.forms.Rooms.{checked_short, checked_room, checked_writt
 use Rattle.window.proofs.forms.write_form.Goals as goal
 
 pub returns-then-lacks_room : goal.returns-then-lacks_room
-returns-then-lacks_room c = checked_short _ _ _ _ c.args.window.accepted c.lacks_room.ensures c.if-lacks_room.true
+returns-then-lacks_room c = checked_short _ _ _ _ c.args.w.accepted c.lacks_room.ensures c.if-lacks_room.true
 
 pub write_normal_form-requires : goal.write_normal_form-requires
-write_normal_form-requires c = checked_room _ _ _ c.args.out.now c.args.window.accepted c.lacks_room.ensures c.if-lacks_room.false
+write_normal_form-requires c = checked_room _ _ _ c.args.out.now c.args.w.accepted c.lacks_room.ensures c.if-lacks_room.false
 
 pub returns : goal.returns
 returns c =
-    checked_written _ _ _ _ c.args.window.accepted c.lacks_room.ensures c.if-lacks_room.false
+    checked_written _ _ _ _ c.args.w.accepted c.lacks_room.ensures c.if-lacks_room.false
     c.write_normal_form.ensures.0 c.write_normal_form.ensures.1

@@ -1,9 +1,0 @@
--- `converting::converted_size`, by cases on the edition.
--- Assumes nothing.
-use Rattle.book.proofs.converting.converted_size.Goals as goal
-
-pub returns-in-First : goal.returns-in-First
-returns-in-First c = rw c.in-First.is
-
-pub returns-in-Second : goal.returns-in-Second
-returns-in-Second c = rw c.in-Second.is

@@ -1,0 +1,3 @@
+-- What the proofs of the module `records` share.
+pub mod KindNumbers
+pub mod CheckedRecords
