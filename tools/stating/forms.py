@@ -32,8 +32,9 @@ UNUSED = re.compile(r"""(?<!&')\b(?:trait|unsafe|static|async|union|dyn|macro_ru
 # every item begins its line and has one of these forms, and their words stand nowhere else
 # a parameter of a type may be an impl of a trait, or a number
 PARAMETER = re.compile(r"&impl\b|(?<=[<,] )const \w+: usize(?=[,>])|(?<=<)const \w+: usize(?=[,>])")
-# an impl, and within one a type, a ghost member, or the ghost field of a struct
-OF_TYPES = r"impl(?:<[^{};]*?>)? (?:[\w:]+(?:<[^{};]*>)? for )?\w+(?:<[^{};]*>)? \{$| +type \w+ = [\w:<>]+;$| +(?:pub(?:\(crate\))? )?ghost \w+(?: =|:) \{"
+# an impl, and within one a type and a ghost member, or the ghost field of a struct. Of traits there is one, whose member says what its function returns: others'
+# members ask something of callers, or change what a clause means
+OF_TYPES = r"impl(?:<[^{};]*?>)? (?:TryFrom<\w+> for )?\w+(?:<[^{};]*>)? \{$| +type \w+ = [\w:<>]+;$| +ghost try_from_gives = \{| +(?:pub(?:\(crate\))? )?ghost \w+: \{"
 ITEM = re.compile(rf"""(?m)^(?:{OF_TYPES})|""" + r"""^ *(?:(?:pub(?:\(crate\))? )?(?:(?:fn|extern "C" fn|enum|struct) \w|const \w+:|mod \w+;$|use [\w:]+(?:::\{\s*[\w:]+(?:,\s*[\w:]+)*,?\s*\})?;$)|ghost use \S|pub(?:\(crate\))? \w+: )""")
 BEGINS = re.compile(r"\b(?:fn|enum|struct|impl|type|const|mod|use|ghost|pub|extern)\b")
 

@@ -20,6 +20,8 @@ WRONG_ROUTERS = tuple(f"{WRONG}{name}.antt" for name in (
     "Answers", "Books", "Checks", "Definitions", "DefinitionsAbove", "DefinitionsFurther", "Messages", "Rewrites", "Routers", "Shortest", "Splits", "Tables",
     "Traces", "Windows"))
 TABLE, RULED_OUT = f"{WRONG}Answers.antt", f"{WRONG}Routers.antt"
+# the clauses whose calls take a value that carries a fact, and so ask for it by their types
+FACTS_TAKEN = ("K3", "I36")
 # the lists of rows in the first of these, and of each the laws of the second that say how many rows it has and that it is ruled out
 LISTS = {"table": ("table-length", "ruled_out"), "further": ("further-length", "further_ruled_out")}
 CITING_WRONG = "Q"
@@ -366,12 +368,33 @@ class Builder:
                         self.model.wrong.append(f"{said} has no clause in {CITATIONS}")
                     if "requires" in kinds:
                         self.model.wrong.append(f"{said} has a requires")
+                    taken = self._facts_taken(crate, function)
+                    allowed = {name for clause in FACTS_TAKEN for one in self.model.cited.get(clause, []) if one.kind == "contract" and one.where == crate
+                               for name in one.names}
+                    if taken and function.name not in allowed:
+                        self.model.wrong.append(f"{said} asks something of its caller by the type {taken}")
                     if re.search(r"->|&(?:'\w+ )?mut ", function.text) and "ensures" not in kinds:
                         self.model.wrong.append(f"{said} has no ensures")
         stated = sum(kind == "contract" for kind, _, _ in self.model.statements)
         counted = self.world.public_functions()
         if counted != stated:
             self.model.wrong.append(f"the pages state {stated} public functions, {AWK} counts: {counted}")
+
+    def _facts_taken(self, crate, function):
+        """The first type of a parameter, or of a field of one, that carries a fact: who calls the function owes it."""
+        types = {made.name: made for one in self.world.crates for file in self.world.rattle(one) for made in file.types if made.public}
+        parameters = re.sub(r"(?s)->.*|\b(?:requires|ensures)\b.*", "", function.text)
+        if "self" in function.parameters:
+            parameters += " " + function.name.split("::")[0]
+        waiting, seen = [name for name in re.findall(r"\w+", parameters.partition("(")[2]) if name in types], set()
+        while waiting:
+            name = waiting.pop(0)
+            if types[name].ghosts:
+                return name
+            if name not in seen:
+                seen.add(name)
+                waiting += [other for other in re.findall(r"\w+", types[name].text.partition("{")[2]) if other in types]
+        return ""
 
     def _edits(self):
         cited = {f"crates/{one.where}/must-fail/{name}.edit" for citations in self.model.cited.values() for one in citations if one.kind == "edit"

@@ -20,7 +20,8 @@ pub(crate) fn put_two(out: &mut [u8], p: usize, x: usize)
     out[p + 1] = (x / 256 % 256) as u8;
 }
 
-// The elements of `part` written from p on.
+// The elements of `part` written from p on. Three crates have such a function of their own: a public one would need a
+// `requires`.
 pub(crate) fn copy_to<T: Copy>(part: &[T], out: &mut [T], p: usize)
     requires { p + length part.now ≤ length out.old }
     ensures { out.new ≡ sets out.old p part.now }

@@ -3,7 +3,7 @@
 use mathlib.Core.Path.{◌≡◌, refl, sym, ap, subst, ◌∙◌}
 use Prim.Native.Nat.{ℕ, ◌≤◌, ◌<◌}
 use native.Mathlib.Omega.{arith}
-use mathlib.Core.Bool.{or-true}
+use mathlib.Core.Bool.{false, or-true}
 use lib.Dec.{ltb}
 use borrow.Author.Tests.{le-ltb, lt-ltb}
 use Rattle.std.specs.Prelude.{Result, Ok, Err, IsErr, IsErrAnd}
@@ -22,6 +22,13 @@ unfolding kind_of
 kind_of_number A = refl
 kind_of_number B = refl
 kind_of_number D = refl
+
+-- check 5 lets the number of a kind pass
+pub kind_number_passes : (k : Kind) → wrong_kind (kind_number k) ≡ false
+unfolding wrong_kind
+kind_number_passes A = refl
+kind_number_passes B = refl
+kind_number_passes D = refl
 
 -- the kind of a number from the number of a kind
 pub numbered_kind : {k : Kind} {j : ℕ} → kind_number k ≡ j → k ≡ kind_of j

@@ -1,4 +1,4 @@
--- The refusals and their numbers (CO3). A refusal is the number of the check that fails; the code names it by a case of
+-- The refusals and their numbers (CO3 of the specification). A refusal is the number of the check that fails; the code names it by a case of
 -- the enum `Refusal`.
 use Rattle.std.specs.Prelude.{ℕ, Result, Ok, Err}
 use Rattle.coxeter.specs.declared.Refusal.{Refusal}

@@ -1,19 +1,18 @@
 // How many windows have each length: the product of one factor a level, multiplied out in place. A factor is one
 // running sum, in kind D with a shifted sum after it. No sum is greater than the number of all windows, so all fit
 // 64 bits.
-ghost use Rattle.std.specs.Prelude.{◌≡◌, ◌+◌, ◌^◌, ◌≤◌, ◌<◌, length};
+ghost use Rattle.std.specs.Prelude.{◌≡◌, ℕ, ◌+◌, ◌-◌, ◌^◌, ◌≤◌, ◌<◌, length};
 ghost use Rattle.coxeter.specs.Length.{greatest_length};
 ghost use Rattle.coxeter.specs.Calls.{front};
 ghost use Rattle.distribution.specs.Distribution.{distribution};
 ghost use Rattle.distribution.specs.Calls.{greatest_tabled};
 ghost use Rattle.distribution.proofs.Sums.{below};
-ghost use Rattle.distribution.proofs.Factors.{combined, with_shifted, sum_to, running, factor};
+ghost use Rattle.distribution.proofs.Factors.{sum_to, running, factor};
 ghost use Rattle.distribution.proofs.Products.{fewest, product};
-ghost use Rattle.distribution.proofs.Values.{values, value_at, Fit, CombinedFits, WithShiftedFit};
+ghost use Rattle.distribution.proofs.Values.{values, value_at, Fit};
 
 use crate::lengths::{fewest_of, greatest_length, top_of};
 use coxeter::{Group, Kind};
-use distribution::Combination;
 
 // 1, 0, 0, ..: before the first level.
 fn set_one(kind: Kind, counts: &mut [u64])
@@ -36,25 +35,15 @@ fn sum_up(counts: &mut [u64])
     }
 }
 
-// A number less another, or both together.
-fn combine(own: u64, back: u64, how: Combination) -> u64
-    requires { CombinedFits how own back }
-    ensures { result ≡ combined how own back }
-{
-    match how {
-        Combination::Difference => own - back,
-        Combination::Sum => own + back,
-    }
-}
-
-// Each number less the one b places before it, or both together, from the last to the first.
-fn combine_shifted(counts: &mut [u64], b: usize, how: Combination)
-    requires le_b { 1 ≤ b }
-    requires with_shifted_fit { WithShiftedFit how b (value_at counts.old) (length counts.old) }
-    ensures { counts.new ≡ values (with_shifted how b (value_at counts.old)) (length counts.old) }
+// Each number combined with the one b places before it, from the last to the first.
+fn combine_shifted<F: Fn(u64, u64) -> u64>(counts: &mut [u64], b: usize, combine: F)
+    requires { (l : ℕ) → b ≤ l → l < length counts.old → F.pre combine (value_at counts.old l) (value_at counts.old (l - b)) }
+    ensures first { (l : ℕ) → l < b → l < length counts.old → value_at counts.new l ≡ value_at counts.old l }
+    ensures others { (l : ℕ) → b ≤ l → l < length counts.old
+        → F.post combine (value_at counts.old l) (value_at counts.old (l - b)) (value_at counts.new l) }
 {
     for l in (b..counts.len()).rev() {
-        counts[l] = combine(counts[l], counts[l - b], how);
+        counts[l] = combine(counts[l], counts[l - b]);
     }
 }
 
@@ -65,7 +54,7 @@ fn run(counts: &mut [u64], c: usize)
     ensures { counts.new ≡ values (running c (value_at counts.old)) (length counts.old) }
 {
     sum_up(counts);
-    combine_shifted(counts, c + 1, Combination::Difference);
+    combine_shifted(counts, c + 1, |own, back| own - back);
 }
 
 // The factor of a level with c greater sizes.
@@ -80,7 +69,7 @@ fn multiply(kind: Kind, c: usize, counts: &mut [u64])
         Kind::B => run(counts, 2 * c + 1),
         Kind::D => {
             run(counts, c);
-            combine_shifted(counts, c, Combination::Sum);
+            combine_shifted(counts, c, |own, back| own + back);
         }
     }
 }

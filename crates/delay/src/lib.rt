@@ -1,7 +1,7 @@
 // The delay table of a kind and a rank: how many windows have each length, the longest window and its normal form.
 //
 // No public function has a `requires`: every input is checked, and what the call returns and writes is a definition
-// of distribution/specs/Calls for every input, refused ones included.
+// of distribution/specs/Calls for every input, refused ones included. So kinds come as numbers (K2).
 #![tactic(auto)]
 
 mod counting;

@@ -70,12 +70,13 @@ pub fn between_windows(
 ) -> Result<usize, Refusal>
     ensures { Yields (between_windows kind rank allowed from.now to.now out.old) (as_answer result) out.new }
 {
-    group_with_set(kind, rank, allowed)?;
-    let (from, to) = accepted_windows(kind, rank, from, to)?;
+    let group = group_with_set(kind, rank, allowed)?;
+    accepted_windows(kind, rank, from, to)?;
+    // Of the slices that were passed: those of the result would be copied from what two stores have just written.
     let pair = Windows {
-        group: from.group,
-        first: from.entries,
-        second: to.entries,
+        group,
+        first: from,
+        second: to,
     };
     match rank {
         0..=8 => write_between::<64>(allowed, pair, out),

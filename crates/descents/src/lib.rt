@@ -2,7 +2,7 @@
 // make a window shorter.
 //
 // No public function has a `requires`: every input is checked in the order of CO2, and what a call returns and
-// writes is a definition of shortest_words/specs for every input, refused ones included.
+// writes is a definition of shortest_words/specs for every input, refused ones included. So kinds come as numbers (K2).
 #![tactic(auto)]
 
 mod allowed;

@@ -21,8 +21,6 @@ use Rattle.coxeter.specs.Length.{one}
 use Rattle.coxeter.proofs.Basics.{pick_same, up-append}
 use Rattle.coxeter.proofs.Lengths.{block_length}
 use Rattle.coxeter.proofs.FormLaws.{block_lengths}
-use Rattle.distribution.specs.declared.Combination.{Combination}
-use Rattle.distribution.specs.declared.Combination.TheVariants.{Difference, Sum}
 use Rattle.distribution.specs.AllWindows.{keep, cons_all}
 use Rattle.distribution.specs.Distribution.{sum}
 use Rattle.distribution.proofs.IndexLists.{level_indices, index_lists, count_indices}
@@ -33,15 +31,6 @@ use Rattle.distribution.proofs.Sums.{below, sum-append, up_snoc, times_of, times
 -- f shifted by b places
 unfoldable pub shifted : ℕ → (ℕ → ℕ) → ℕ → ℕ
 shifted b f l = pick (ltb l b) 0 (f (l - b))
-
--- x less y, or both together
-abbrev pub combined : Combination → ℕ → ℕ → ℕ
-combined Difference x y = x - y
-combined Sum x y = x + y
-
--- f less itself shifted by b places, or both together
-abbrev pub with_shifted : Combination → ℕ → (ℕ → ℕ) → ℕ → ℕ
-with_shifted how b f l = combined how (f l) (shifted b f l)
 
 -- f shifted by each of bs, added
 unfoldable pub spread : List ℕ → (ℕ → ℕ) → ℕ → ℕ

@@ -11,9 +11,6 @@ use lib.ListN.{length, get_or, take, drop, length-map, length-append, length-dro
 use lib.Seq.{ext_get_or, length-take-le, get_or-take, get_or-drop, get_or-append-add}
 use Rattle.coxeter.specs.Kinds.{up}
 use Rattle.coxeter.proofs.Basics.{length_up}
-use Rattle.distribution.specs.declared.Combination.{Combination}
-use Rattle.distribution.specs.declared.Combination.TheVariants.{Difference, Sum}
-use Rattle.distribution.proofs.Factors.{shifted}
 use Rattle.distribution.proofs.Tables.{get_or-map-up}
 
 -- ---- values
@@ -29,15 +26,6 @@ value_at l i = get_or l i 0
 -- the first m values fit 64 bits
 abbrev pub Fit : (ℕ → ℕ) → ℕ → Type 0
 Fit f m = (l : ℕ) → l < m → f l < 2 ^ 64
-
--- x less y is not below 0, or both together fit 64 bits
-abbrev pub CombinedFits : Combination → ℕ → ℕ → Type 0
-CombinedFits Difference x y = y ≤ x
-CombinedFits Sum x y = x + y < 2 ^ 64
-
--- the same of each of the first m values and the one b places before it
-abbrev pub WithShiftedFit : Combination → ℕ → (ℕ → ℕ) → ℕ → Type 0
-WithShiftedFit how b f m = (l : ℕ) → l < m → CombinedFits how (f l) (shifted b f l)
 
 pub length-values : (f : ℕ → ℕ) (m : ℕ) → length (values f m) ≡ m
 unfolding values

@@ -19,7 +19,7 @@ pub(crate) fn put_decimal(out: &mut [u8], at: usize, x: usize) -> usize
     last + 1
 }
 
-// The bytes of `part`.
+// The bytes of `part`. Three crates have such a function of their own: a public one would need a `requires`.
 pub(crate) fn put_bytes(out: &mut [u8], at: usize, part: &[u8]) -> usize
     requires { at + length part.now ≤ length out.old }
     ensures { Stored out.old at part.now out.new result }

@@ -1,4 +1,5 @@
-// The checks on a kind, a rank and a word (C5 to C8 of the specification), each made by one function.
+// The checks on a kind, a rank and a word (C5 to C8 of the specification), each made by one function. A kind comes as a
+// number, as every call takes it (K2): a parameter that has only the three kinds would ask more of callers.
 ghost use Rattle.std.specs.Prelude.{◌≡◌, ◌+◌, ◌≤◌, IfOk};
 ghost use Rattle.coxeter.specs.Kinds.{kind_of, lanes};
 ghost use Rattle.coxeter.specs.Refusals.{refusal_of};

@@ -18,20 +18,14 @@ fn negative_in_a(kind: Kind, e: i8) -> bool
     }
 }
 
-// Marks for sizes, none set: place p stands for the size p + 1.
-fn marks_64() -> [bool; 64]
-    ensures { (length result ≡ 64) × ((p : ℕ) → p < 64 → get_or result p false ≡ false) }
-{
-    [false; 64]
-}
-
 // C10, from the last entry to the first, with the sizes of the entries behind marked: constant work an entry. The
 // sign is looked at first: in kind A an entry that passes is not negative, and its size is the entry itself.
 fn has_wrong_entry(kind: Kind, m: usize, w: &[i8]) -> bool
     requires { m ≤ 64 }
     ensures { result ≡ wrong_entry kind m w.now }
 {
-    let mut marks = marks_64();
+    // Place p stands for the size p + 1.
+    let mut marks = [false; 64];
     for e in w.iter().rev() {
         if negative_in_a(kind, *e) {
             return true;

@@ -23,7 +23,8 @@ pub(crate) struct Steps<'a> {
 }
 
 impl Steps<'_> {
-    // One more step.
+    // One more step. That the lists are the same ones is a clause of each function that takes the steps, since Rattle asks
+    // for it where the lists are given back.
     fn note(&mut self, family: u8, place: usize, left: usize)
         requires few { self.old.made ≤ 8386560 }
         requires place_bound { (place ≤ 4096) × (left ≤ 4096) }

@@ -1,5 +1,5 @@
 // The rewriter layer: one rewrite at a named place, and the rewriting to its end (I19 to I21 of the specification).
-// No public function has a `requires`.
+// No public function has a `requires`, so kinds come as numbers (K2).
 #![tactic(auto)]
 
 ghost use Rattle.std.specs.Prelude.{◌≡◌};

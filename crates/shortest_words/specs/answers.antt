@@ -1,4 +1,4 @@
--- What the calls answer, in the document's terms, one type a file, each with the answer that a result of the code stands
--- for. A refusal is a number here.
+-- What the calls answer, in the document's terms (G17 of the specification), one type a file, with the answer that a result
+-- of the code stands for. A refusal is a number here.
 pub mod Fallback
 pub mod Split

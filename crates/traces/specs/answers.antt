@@ -1,3 +1,3 @@
--- What the call answers, in the document's terms, one type a file, each with the answer that a result of the code stands
--- for. A refusal is a number here.
+-- What the call answers, in the document's terms (G17 of the specification), with the answer that a result
+-- of the code stands for. A refusal is a number here.
 pub mod ToEnd

@@ -14,7 +14,7 @@ use crate::product::{inverse_into, product_into};
 use crate::shown::{between, inverse_of, product_of, shown};
 use coxeter::{Refusal, Window, Word};
 
-// C14: whether `room` is less than the length of a window's normal form. No normal form has more than n × n letters, so
+// I36, C14: whether `room` is less than the length of a window's normal form. No normal form has more than n × n letters, so
 // that the length is measured only if there is less room.
 pub fn lacks_room(w: Window, room: usize) -> bool
     ensures { result ≡ ltb room (window_length w.entry.group.kind w.entry.entries.now) }
@@ -26,7 +26,7 @@ pub fn lacks_room(w: Window, room: usize) -> bool
     room < length_of(w)
 }
 
-// I5, C14: the normal form of a window, to the front of `out`.
+// I36, I5, C14: the normal form of a window, to the front of `out`.
 pub fn write_form(w: Window, out: &mut [u8]) -> Result<usize, Refusal>
     ensures { Yields (writes 0 (normal_form w.entry.group.kind w.entry.group.rank w.entry.entries.now) out.old)
         (as_answer result) out.new }
@@ -37,7 +37,7 @@ pub fn write_form(w: Window, out: &mut [u8]) -> Result<usize, Refusal>
     Ok(write_normal_form(w, out))
 }
 
-// I6, C14: the normal form of what a word shows, to the front of `out`.
+// I36, I6, C14: the normal form of what a word shows, to the front of `out`.
 pub fn write_form_of_word(word: Word, out: &mut [u8]) -> Result<usize, Refusal>
     ensures { Yields (writes 0 (word_normal_form word.entry.group.kind word.entry.group.rank word.entry.letters.now) out.old)
         (as_answer result) out.new }
@@ -46,7 +46,7 @@ pub fn write_form_of_word(word: Word, out: &mut [u8]) -> Result<usize, Refusal>
     write_form(shown(word, &mut work), out)
 }
 
-// I34, C14: the normal form of the product of two windows, to the front of `out`.
+// I36, I34, C14: the normal form of the product of two windows, to the front of `out`.
 pub fn write_form_of_product(pair: Windows, out: &mut [u8]) -> Result<usize, Refusal>
     ensures { Yields (writes 0 (normal_form pair.entry.group.kind pair.entry.group.rank (product pair.entry.first.now pair.entry.second.now))
         out.old) (as_answer result) out.new }
@@ -55,7 +55,7 @@ pub fn write_form_of_product(pair: Windows, out: &mut [u8]) -> Result<usize, Ref
     write_form(product_of(pair, &mut work), out)
 }
 
-// I34, C14: the normal form of a window's inverse, to the front of `out`.
+// I36, I34, C14: the normal form of a window's inverse, to the front of `out`.
 pub fn write_form_of_inverse(w: Window, out: &mut [u8]) -> Result<usize, Refusal>
     ensures { Yields (writes 0 (normal_form w.entry.group.kind w.entry.group.rank (inverse w.entry.entries.now)) out.old)
         (as_answer result) out.new }
@@ -64,7 +64,7 @@ pub fn write_form_of_inverse(w: Window, out: &mut [u8]) -> Result<usize, Refusal
     write_form(inverse_of(w, &mut work), out)
 }
 
-// I34, C14: the normal form of the window that leads from the first to the second, to the front of `out`.
+// I36, I34, C14: the normal form of the window that leads from the first to the second, to the front of `out`.
 pub fn write_form_between(pair: Windows, out: &mut [u8]) -> Result<usize, Refusal>
     ensures { Yields (writes 0 (normal_form pair.entry.group.kind pair.entry.group.rank
         (product (inverse pair.entry.first.now) pair.entry.second.now)) out.old) (as_answer result) out.new }
@@ -73,7 +73,7 @@ pub fn write_form_between(pair: Windows, out: &mut [u8]) -> Result<usize, Refusa
     write_form(between(pair, &mut work), out)
 }
 
-// I4, C14: the window of a word, to the front of `out`.
+// I36, I4, C14: the window of a word, to the front of `out`.
 pub fn write_window(word: Word, out: &mut [i8]) -> Result<usize, Refusal>
     ensures { Yields (writes 0 (window word.entry.group.kind word.entry.group.rank word.entry.letters.now) out.old)
         (as_answer result) out.new }
@@ -98,7 +98,7 @@ pub(crate) fn write_product(pair: Windows, out: &mut [i8]) -> Result<usize, Refu
     Ok(m)
 }
 
-// I10, C14: the inverse of a window, to the front of `out`.
+// I36, I10, C14: the inverse of a window, to the front of `out`.
 pub fn write_inverse(w: Window, out: &mut [i8]) -> Result<usize, Refusal>
     ensures { Yields (writes 0 (inverse w.entry.entries.now) out.old) (as_answer result) out.new }
 {

@@ -1,4 +1,4 @@
--- The answer of reading a preset.
+-- The answer of reading a preset (I26 of the specification).
 use Rattle.std.specs.Prelude.{ℕ, Result, Ok, Err}
 use Rattle.coxeter.specs.Kinds.{kind_number}
 use Rattle.coxeter.specs.declared.Refusal.{Refusal}

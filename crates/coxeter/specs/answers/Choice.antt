@@ -1,4 +1,4 @@
--- Which of two words is the better one.
+-- Which of two words is the better one (I17 of the specification).
 use Rattle.std.specs.Prelude.{Option, Some, None}
 use Rattle.coxeter.specs.declared.Better.{Better}
 use Rattle.coxeter.specs.declared.Better.TheVariants as better

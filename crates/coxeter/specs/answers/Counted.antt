@@ -1,4 +1,4 @@
--- A length as its three counts.
+-- A length as its three counts (L2, L3 and L4 of the specification).
 use Rattle.std.specs.Prelude.{ℕ, Result, Ok, Err}
 use Rattle.coxeter.specs.declared.LengthCounts.{LengthCounts}
 use Rattle.coxeter.specs.declared.Refusal.{Refusal}

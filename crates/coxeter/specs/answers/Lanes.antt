@@ -1,4 +1,4 @@
--- How many lanes a kind and a rank have.
+-- How many lanes a kind and a rank have (K3 and I33 of the specification).
 use Rattle.std.specs.Prelude.{ℕ, Result, Ok, Err}
 use Rattle.coxeter.specs.declared.Group.{Group}
 use Rattle.coxeter.specs.Kinds.{lanes}

@@ -1,4 +1,4 @@
--- An equality verdict.
+-- An equality verdict (V1 of the specification).
 use Rattle.std.specs.Prelude.{ℕ, Bool, true, false, Result, Ok, Err}
 use Rattle.coxeter.specs.declared.Refusal.{Refusal}
 use Rattle.coxeter.specs.Refusals.{number}

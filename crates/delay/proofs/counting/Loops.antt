@@ -1,11 +1,10 @@
 -- One turn of each loop of `counting`: what is read, that it fits 64 bits, and what is then filled.
--- Sections: sums from the start; shifted sums from the end; 1, 0, 0, ...
+-- Sections: sums from the start; 1, 0, 0, ...
 -- Assumes nothing.
-use mathlib.Core.Path.{◌≡◌, sym, ap, ap₂, ◌∙◌}
+use mathlib.Core.Path.{◌≡◌, sym, ap, ◌∙◌}
 use mathlib.Core.List.{List}
-use Prim.Native.Nat.{ℕ, ◌+◌, ◌-◌, ◌^◌, ◌≤◌, ◌<◌}
+use Prim.Native.Nat.{ℕ, ◌+◌, ◌^◌, ◌≤◌, ◌<◌}
 use native.Mathlib.Omega.{arith}
-use native.Mathlib.Nat.{add-zero, sub-zero}
 use native.Mathlib.Decide.{ℕ_discrete}
 use native.Mathlib.Numerals.{add-one}
 use borrow.Author.Tests.{ne_eqb}
@@ -13,13 +12,11 @@ use lib.ListN.{get_or, set, length-set, replicate, length-replicate, get_or-repl
 use lib.Seq.{get_or-set_same, get_or-set_other}
 use Rattle.coxeter.specs.declared.Kind.{Kind}
 use Rattle.coxeter.specs.Length.{one}
-use Rattle.distribution.specs.declared.Combination.{Combination}
-use Rattle.distribution.specs.declared.Combination.TheVariants.{Difference, Sum}
 use Rattle.distribution.proofs.Sums.{below, below_le}
-use Rattle.distribution.proofs.Factors.{shifted, shifted_lt, shifted_le, combined, with_shifted, sum_to}
+use Rattle.distribution.proofs.Factors.{sum_to}
 use Rattle.distribution.proofs.Products.{product}
-use Rattle.distribution.proofs.Values.{values, CombinedFits, WithShiftedFit, values_eq}
-use Rattle.delay.proofs.counting.Filling.{Filled, filled_next, filled_back, filled_start}
+use Rattle.distribution.proofs.Values.{values, values_eq}
+use Rattle.delay.proofs.counting.Filling.{Filled, filled_next}
 
 -- ---- sums from the start
 
@@ -33,30 +30,6 @@ module _ {f : ℕ → ℕ} {m : ℕ} {w : List ℕ} {l sum : ℕ} (h : Filled l 
 
   pub sum_filled : Filled (l + 1) (sum_to f) f m (set w l (sum + get_or w l 0))
   sum_filled = filled_next h o (sum_next ∙ ap (below f) (add-one l))
-
--- ---- shifted sums from the end
-
-combined_zero : (how : Combination) (x : ℕ) → combined how x 0 ≡ x
-combined_zero Difference x = sub-zero x
-combined_zero Sum x = add-zero x
-
-module _ (how : Combination) {f : ℕ → ℕ} {m : ℕ} {w : List ℕ} {l b : ℕ} (h : Filled l f (with_shifted how b f) m w) (p : 1 ≤ b) (o : l ≤ m) where
-  -- what is read: the last number that is not filled, and the one b places before it
-  read_own : b < l → get_or w (l - 1) 0 ≡ f (l - 1)
-  read_own q = h.front (l - 1) (omega arith) (omega arith)
-
-  read_back : b < l → get_or w (l - 1 - b) 0 ≡ shifted b f (l - 1)
-  read_back q = h.front (l - 1 - b) (omega arith) (omega arith) ∙ sym (shifted_le b f (l - 1) (omega arith))
-
-  pub combined-fits : b < l → WithShiftedFit how b f m → CombinedFits how (get_or w (l - 1) 0) (get_or w (l - 1 - b) 0)
-  combined-fits q a = rw (read_own q, read_back q) (a (l - 1) (omega arith))
-
-  pub combined_filled : {v : ℕ} → b < l → v ≡ combined how (get_or w (l - 1) 0) (get_or w (l - 1 - b) 0)
-      → Filled (l - 1) f (with_shifted how b f) m (set w (l - 1) v)
-  combined_filled q e = filled_back h (omega arith) (omega arith) (e ∙ ap₂ (combined how) (read_own q) (read_back q))
-
-  pub combined_end : l ≤ b → w ≡ values (with_shifted how b f) m
-  combined_end q = filled_start h (λ i t. rw (shifted_lt b f i (omega arith)) (sym (combined_zero how (f i))))
 
 -- ---- 1, 0, 0, ..
 

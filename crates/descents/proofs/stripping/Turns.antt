@@ -1,10 +1,9 @@
 -- The turns of the loop of `stripping::strip`: what is left of the window is reached by allowed steps that make it
 -- shorter, and no allowed step below the one to be tried does so any more.
 --
--- Sections: how far back; one step; the loop.
+-- Sections: one step; the loop.
 -- Assumes nothing.
 use mathlib.Core.Path.{◌≡◌, sym, ap, ◌∙◌}
-use mathlib.Core.Logic.{◌⊎◌, ⊎_elim}
 use mathlib.Core.Bool.{Bool, true, ◌&&◌, and-eq-true_iff}
 use mathlib.Core.List.{List}
 use Prim.Native.Nat.{ℕ, ◌+◌, ◌-◌, ◌*◌, ◌≤◌, ◌<◌}
@@ -12,14 +11,12 @@ use native.Mathlib.Nat.{add-mul, one-mul}
 use native.Mathlib.Omega.{arith}
 use lib.IntN.{ℤ}
 use Rattle.coxeter.specs.declared.Kind.{Kind}
-use Rattle.coxeter.specs.declared.Kind.TheVariants.{A, B, D}
 use Rattle.coxeter.specs.Kinds.{least, pick}
 use Rattle.coxeter.specs.Windows.{act}
 use Rattle.coxeter.specs.Length.{window_length}
 use Rattle.coxeter.specs.Checks.{WindowOf}
 use Rattle.coxeter.proofs.Levels.{Accepted, accepted_of_refusal}
 use Rattle.coxeter.proofs.Theorems.{act_passes}
-use Rattle.coxeter.proofs.KindLaws.{A≢D, B≢D}
 use Rattle.shortest_words.specs.Descents.{is_descent}
 use Rattle.shortest_words.specs.Allowed.{allows}
 use Rattle.shortest_words.proofs.Descents.{length_of_descent}
@@ -31,17 +28,6 @@ use Rattle.shortest_words.proofs.FarSteps.{Far, ended_far}
 -- what `back` ensures
 abbrev pub Back : Kind → ℕ → ℕ → ℕ → Type 0
 Back k n s r = (1 ≤ r) × (r ≤ s) × (2 ≤ r → Far k n (r - 1) s)
-
-back_one : (k : Kind) (n s : ℕ) → 2 ≤ s → (k ≡ D → s ≡ n → ⊥) → Back k n s (s - 1)
-back_one k n s o f = (omega arith, omega arith, λ t. (omega arith, λ d e. absurd (f d e)))
-
-pub back_identity : (k : Kind) (n s : ℕ) → 2 ≤ s → (k ≡ A) ⊎ (k ≡ B) → Back k n s (s - 1)
-back_identity k n s o = ⊎_elim (λ e. rw e (back_one A n s o (λ d f. A≢D d))) (λ e. rw e (back_one B n s o (λ d f. B≢D d)))
-
-pub back_fork : (k : Kind) (n s : ℕ) → k ≡ D → least k ≤ n → n ≤ s → s ≤ n → Back k n s (s - 2)
-back_fork k n s f h l m =
-    let four : 4 ≤ n = rw f at h in
-    (omega arith, omega arith, λ t. (omega arith, λ d e. omega arith))
 
 -- ---- one step
 

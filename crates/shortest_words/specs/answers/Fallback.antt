@@ -1,4 +1,4 @@
--- The verdict on a fallback.
+-- The verdict on a fallback (I18 of the specification).
 use Rattle.std.specs.Prelude.{ℕ, Option, Some, None, Result, Ok, Err}
 use Rattle.coxeter.specs.declared.Refusal.{Refusal}
 use Rattle.coxeter.specs.Refusals.{number}

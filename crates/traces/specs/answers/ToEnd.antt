@@ -1,4 +1,4 @@
--- The answer of the rewriting to its end.
+-- The answer of the rewriting to its end (T22 of the specification).
 use Rattle.std.specs.Prelude.{ℕ, Result, Ok, Err}
 use Rattle.coxeter.specs.declared.Refusal.{Refusal}
 use Rattle.coxeter.specs.Refusals.{number}

@@ -6,29 +6,26 @@ use Rattle.descents.proofs.Answers.{answer_refused}
 use Rattle.descents.proofs.between.Leading.{refused_by_set, refused_by_windows, led}
 use Rattle.descents.proofs.between.between_windows.Goals as goal
 
-pub returns-in_err-group_with_set : goal.returns-in_err-group_with_set
-returns-in_err-group_with_set c =
-    rw (answer_refused _ _ c.from_residual.ensures) (refused_by_set _ _ _ _ _ c.in_err-group_with_set.ensures.refusal (number_positive _))
+pub returns-in_err-group : goal.returns-in_err-group
+returns-in_err-group c =
+    rw (answer_refused _ _ c.from_residual.ensures) (refused_by_set _ _ _ _ _ c.in_err-group.ensures.refusal (number_positive _))
 
-pub returns-in_err-from : goal.returns-in_err-from
-returns-in_err-from c =
-    rw (answer_refused _ _ c.from_residual-in_err-from.ensures)
-    (refused_by_windows _ _ _ _ _ c.in_ok-group_with_set.ensures.refusal c.in_err-from.ensures.refusal (number_positive _))
+pub returns-in_err-accepted_windows : goal.returns-in_err-accepted_windows
+returns-in_err-accepted_windows c =
+    rw (answer_refused _ _ c.from_residual-in_err-accepted_windows.ensures)
+    (refused_by_windows _ _ _ _ _ c.in_ok-group.ensures.refusal c.in_err-accepted_windows.ensures.refusal (number_positive _))
 
 pub returns-in-0-to-8 : goal.returns-in-0-to-8
 returns-in-0-to-8 c =
-    let w = c.in_ok-from.ensures in
-    led _ _ _ _ _ c.in_ok-group_with_set.ensures.refusal _ w.refusal
-    (rw (w.windows.0.0, w.windows.0.1, w.windows.0.2, w.windows.1.2) at c.write_between.ensures)
+    let g = c.in_ok-group.ensures in
+    led _ _ _ _ _ g.refusal _ c.in_ok-accepted_windows.ensures.refusal (rw (g.group.0, g.group.1) at c.write_between.ensures)
 
 pub returns-in-9-to-16 : goal.returns-in-9-to-16
 returns-in-9-to-16 c =
-    let w = c.in_ok-from.ensures in
-    led _ _ _ _ _ c.in_ok-group_with_set.ensures.refusal _ w.refusal
-    (rw (w.windows.0.0, w.windows.0.1, w.windows.0.2, w.windows.1.2) at c.write_between-in-9-to-16.ensures)
+    let g = c.in_ok-group.ensures in
+    led _ _ _ _ _ g.refusal _ c.in_ok-accepted_windows.ensures.refusal (rw (g.group.0, g.group.1) at c.write_between-in-9-to-16.ensures)
 
 pub returns-in_default : goal.returns-in_default
 returns-in_default c =
-    let w = c.in_ok-from.ensures in
-    led _ _ _ _ _ c.in_ok-group_with_set.ensures.refusal _ w.refusal
-    (rw (w.windows.0.0, w.windows.0.1, w.windows.0.2, w.windows.1.2) at c.write_between-in_default.ensures)
+    let g = c.in_ok-group.ensures in
+    led _ _ _ _ _ g.refusal _ c.in_ok-accepted_windows.ensures.refusal (rw (g.group.0, g.group.1) at c.write_between-in_default.ensures)

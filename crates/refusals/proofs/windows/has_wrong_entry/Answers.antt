@@ -1,7 +1,9 @@
 -- What `search` leaves open of the proof of `windows::has_wrong_entry`.
-use mathlib.Core.Path.{◌≡◌, sym, ap, ◌∙◌}
+use mathlib.Core.Path.{◌≡◌, refl, sym, ap, ◌∙◌}
+use mathlib.Core.Bool.{false}
 use native.Mathlib.Omega.{arith}
 use lib.IntN.{pos, nat_abs}
+use lib.ListN.{get_or-replicate}
 use Rattle.std.specs.Iterator.Adapters.{rev_source}
 use Rattle.std.specs.Slice.Iter.{iter_rest}
 use Rattle.coxeter.specs.Checks.{negative_in_A}
@@ -15,7 +17,7 @@ use Rattle.refusals.proofs.windows.has_wrong_entry.Goals.{After-negative_in_a, A
 pub loop-e-init : goal.loop-e-init
 loop-e-init c =
     rw (c.into_iter-e-iterator.ensures.into_iter_gives, c.rev-e-items.ensures.source, c.iter.ensures.rest)
-    (tt, tt, front_whole _, marked_from_none c.marks_64-marks.ensures)
+    (tt, tt, front_whole _, marked_from_none (refl, λ p l. get_or-replicate 64 p false false l))
 
 -- the entry of this turn is the last of those left
 taken : (c : After-negative_in_a) → LastTaken (iter_rest (rev_source c.loop-e.e-iterator)) (iter_rest (rev_source c.next.new.self)) c.args.w.now c.in-Some.e.now (pos 0)
