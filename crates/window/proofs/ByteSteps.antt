@@ -6,7 +6,6 @@
 use mathlib.Core.Path.{◌≡◌, refl, sym, ap, ◌∙◌}
 use mathlib.Core.List.{List, [], ◌∷◌}
 use Prim.Native.Nat.{ℕ, zero, suc, ◌+◌, ◌-◌, ◌≤◌, ◌<◌}
-use native.Mathlib.Decide.{ℕ_discrete}
 use native.Mathlib.Nat.{suc-add}
 use native.Mathlib.Omega.{arith}
 use lib.IntN.{ℤ, pos, neg_ℤ, nat_abs}
@@ -17,10 +16,10 @@ use mir.Val.{to_z, of_z}
 use Rattle.coxeter.specs.declared.Group.{Group}
 use Rattle.coxeter.specs.declared.Kind.{Kind}
 use Rattle.coxeter.specs.declared.Kind.TheVariants.{A, B, D}
-use Rattle.coxeter.specs.Kinds.{kind_of, lanes}
+use Rattle.coxeter.specs.Kinds.{lanes}
 use Rattle.coxeter.specs.Windows.{from, swap, negate_first, swap_negate, act}
 use Rattle.coxeter.specs.Checks.{WindowOf}
-use Rattle.coxeter.proofs.KindLaws.{lanes_le_add_one, kind_of-one, kind_of-two, kind_of_three, A≢B, B≢D}
+use Rattle.coxeter.proofs.KindLaws.{lanes_le_add_one}
 use Rattle.coxeter.proofs.Acceptance.{Ranked}
 use Rattle.coxeter.proofs.Groups.{in_range_ranked}
 use Rattle.coxeter.proofs.Levels.{Between, accepted_of_refusal}
@@ -162,38 +161,3 @@ module _ (k : Kind) (n s : ℕ) (w : List ℤ) (h : StepOf k n s w) (l : length 
 
   pub swap_negate_is_act : (k ≡ B → ⊥) → from (n - 2) swap_negate w ≡ act k n s w
   swap_negate_is_act f = rw (last_is_D k n s w h l f, last.0, act-D_last n (n - 2) (omega (arith, four_le f)))
-
--- ---- one step, of a kind by its number
-
-abbrev pub ActRequires : ℕ → ℕ → ℕ → List ℤ → Type 0
-ActRequires k = StepOf (kind_of k)
-
-not_two : (k : ℕ) → (k ≡ 2 → ⊥) → kind_of k ≡ B → ⊥
-not_two k f e =
-    elim (ℕ_discrete k 1) [
-      | yes g ↦ A≢B (sym (kind_of-one k g) ∙ e)
-      | no g ↦ B≢D (sym e ∙ kind_of_three k g f)
-    ]
-
-pub swap_eq_act : (k n s : ℕ) (w : List ℤ) → ActRequires k n s w → s < length w → from (s - 1) swap w ≡ act (kind_of k) n s w
-swap_eq_act k = swap_is_act (kind_of k)
-
-pub last_kind : (k n s : ℕ) (w : List ℤ) → ActRequires k n s w → length w ≤ s → (k ≡ 2 → ⊥) → kind_of k ≡ D
-last_kind k n s w h l f = last_is_D (kind_of k) n s w h l (not_two k f)
-
-module _ (k n s : ℕ) (w : List ℤ) (h : ActRequires k n s w) (l : length w ≤ s) where
-  pub negate_at_requires_of_last : (n - 1 < length w) × (nat_abs (get_or w (n - 1) (pos 0)) < 128)
-  negate_at_requires_of_last = negate_at_asks (kind_of k) n s w h l
-
-  pub negate_first_eq_act : k ≡ 2 → from (n - 1) negate_first w ≡ act (kind_of k) n s w
-  negate_first_eq_act e = negate_first_is_act (kind_of k) n s w h l (kind_of-two k e)
-
-  pub four_le_of_last : (k ≡ 2 → ⊥) → 4 ≤ n
-  four_le_of_last f = four_le (kind_of k) n s w h l (not_two k f)
-
-  pub swap_negate_at_requires_of_last : (k ≡ 2 → ⊥)
-      → (n - 2 + 1 < length w) × ((nat_abs (get_or w (n - 2) (pos 0)) < 128) × (nat_abs (get_or w (n - 2 + 1) (pos 0)) < 128))
-  swap_negate_at_requires_of_last f = swap_negate_at_asks (kind_of k) n s w h l (not_two k f)
-
-  pub swap_negate_eq_act : (k ≡ 2 → ⊥) → from (n - 2) swap_negate w ≡ act (kind_of k) n s w
-  swap_negate_eq_act f = swap_negate_is_act (kind_of k) n s w h l (not_two k f)
