@@ -2,17 +2,12 @@
 ghost use Rattle.std.specs.Prelude.{◌≡◌, nat_abs};
 ghost use Rattle.coxeter.specs.Length.{negative};
 
-// C10: the size of an entry, that is, the number without its sign. Every byte has one: no byte is negated before
-// its range is known (Q10), and -128 has the size 128.
+// C10: the size of an entry, that is, the number without its sign. Every byte has one, and none is negated (Q10):
+// -128 has the size 128.
 pub fn size(e: i8) -> u8
     ensures { result ≡ nat_abs e }
 {
-    if e < 0 {
-        let below = -1 - e;
-        (below as u8) + 1
-    } else {
-        e as u8
-    }
+    e.unsigned_abs()
 }
 
 // L4: whether an entry is below 0; 0 is not.

@@ -14,7 +14,9 @@ use crate::length::larger_behind;
 use coxeter::{Kind, Window};
 use refusals::{is_negative, size};
 
-// Writes the letters from a up to b from the place `at` on and returns the place after them.
+// Writes the letters from a up to b from the place `at` on and returns the place after them. r is counted by hand: as
+// `iter_mut().enumerate()` short runs took longer. A struct of buffer and place would need a clause more in each function
+// here, that the buffer is the same one.
 fn write_up(out: &mut [u8], at: usize, a: usize, b: usize) -> usize
     requires { (b < 256) × (at + length (rise a b) ≤ length out.old) }
     ensures { (result ≡ at + length (rise a b)) × (out.new ≡ sets out.old at (rise a b)) }
@@ -79,8 +81,8 @@ fn write_turned(kind: Kind, n: usize, i: usize, j: usize, out: &mut [u8], at: us
 }
 
 // N4 to N8: writes the block [i,j] from the place `at` on and returns the place after it. Before the turn the block goes
-// up only. The windows have m entries: in B and D that is the rank, and in A every j is below it; so m is a number, and
-// not that of a group.
+// up only. The windows have m entries: in B and D that is the rank, and in A every j is below it; so kind and m
+// are no group.
 fn write_block(kind: Kind, m: usize, i: usize, j: usize, out: &mut [u8], at: usize) -> usize
     requires ranked { Ranked kind m × (j ≤ 2 * m) × (kind ≡ A → j < m) }
     requires j_in_bounds { at + length (block kind m i j) ≤ length out.old }
@@ -92,7 +94,7 @@ fn write_block(kind: Kind, m: usize, i: usize, j: usize, out: &mut [u8], at: usi
     write_turned(kind, m, i, j, out, at)
 }
 
-// The place of an entry: its position p, and 128 more if it is negative.
+// The place of an entry: its position p, and 128 more if it is negative, so that one load gives both, from 64 bytes.
 fn place_of(e: i8, p: u8) -> u8
     requires { p < 128 }
     ensures { result ≡ place_of e p }
