@@ -2,8 +2,8 @@
 ghost use Rattle.std.specs.Prelude.{◌≡◌, nat_abs};
 ghost use Rattle.coxeter.specs.Length.{negative};
 
-// C10: the size of an entry, that is, the number without its sign. Every byte has one, and none is negated (Q10):
-// -128 has the size 128.
+// C10: the size of an entry, that is, the number without its sign. Every byte has one: no byte is negated before
+// its range is known (Q10), and -128 has the size 128.
 pub fn size(e: i8) -> u8
     ensures { result ≡ nat_abs e }
 {
