@@ -59,7 +59,7 @@ fn convertible(edition: Edition, book: &[u8]) -> Result<CheckedBook, Refusal>
     Ok(book)
 }
 
-// A book with bytes that no check of a conversion refuses.
+// A book that is not empty and passes every check of a conversion.
 #[derive(Clone, Copy)]
 struct Conversion<'a> {
     book: CheckedBook<'a>,

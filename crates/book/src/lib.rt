@@ -1,5 +1,5 @@
 // The preset book in its two editions (section B of the specification): checks, reading by number, appending,
-// converting. No public function has a `requires`, so kinds come as numbers (K2), as they stand in records.
+// converting. No public function has a `requires`. Kinds come as numbers and are checked here, as K2 and C5 promise.
 #![tactic(auto)]
 
 mod checked;

@@ -11,17 +11,15 @@ pub(crate) fn two_at(b: &[u8], p: usize) -> usize
     u16::from_le_bytes([b[p], b[p + 1]]) as usize
 }
 
-// The number x modulo 65,536, written at p. Byte by byte, since a `u16` would take only an x that fits.
+// The number x modulo 65,536, written at p.
 pub(crate) fn put_two(out: &mut [u8], p: usize, x: usize)
     requires { p + 1 < length out.old }
     ensures { out.new ≡ sets out.old p (two x) }
 {
-    out[p] = (x % 256) as u8;
-    out[p + 1] = (x / 256 % 256) as u8;
+    copy_to(&((x % 65536) as u16).to_le_bytes(), out, p);
 }
 
-// The elements of `part` written from p on. Three crates have such a function of their own: a public one would need a
-// `requires`.
+// The elements of `part` written from p on. Three crates have their own copy: a public one would need a `requires`.
 pub(crate) fn copy_to<T: Copy>(part: &[T], out: &mut [T], p: usize)
     requires { p + length part.now ≤ length out.old }
     ensures { out.new ≡ sets out.old p part.now }

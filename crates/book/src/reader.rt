@@ -1,6 +1,6 @@
 // An opened book (B14, G16): it keeps its bytes, its edition and what opening them returned, and serves preset
 // calls by number. Each call hands edition and bytes to the call on edition, slice and number, and is right
-// whatever `opened` holds. I31 names the calls, so they are functions and no methods.
+// whatever `opened` holds. The calls are functions and no methods, since their names and signatures may not change.
 ghost use Rattle.std.specs.Prelude.{◌≡◌, ◌+◌};
 ghost use Rattle.book_format.specs.answers.Opened.{as_opened};
 ghost use Rattle.book_format.specs.answers.Preset.{as_preset};

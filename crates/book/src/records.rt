@@ -84,7 +84,7 @@ pub(crate) fn put_lanes(edition: Edition, lanes: u8, out: &mut [u8], p: usize)
     }
 }
 
-// The record at the byte `start` of a book, which has all of it.
+// The record at byte `start`, which lies wholly within the book.
 #[derive(Clone, Copy)]
 pub(crate) struct Record<'a> {
     pub(crate) edition: Edition,
@@ -150,7 +150,7 @@ impl<'a> Record<'a> {
     }
 
     // The lane count of a record that passed its checks. The second edition has a byte for it. In the first it is
-    // counted from the kind and the rank; they passed as well, so that no refusal is reached.
+    // computed from the kind and the rank; they passed as well, so that no refusal is reached.
     pub(crate) fn lanes(&self) -> u8
         requires { RankOf (kind_at self.now.book.now self.now.start) (rank_at self.now.book.now self.now.start) }
         ensures { result ≡ lanes_at self.now.edition self.now.book.now self.now.start }

@@ -14,7 +14,7 @@ use crate::records::{book_group, count_place, head_size, is_retired, put_lanes};
 use book_format::Edition;
 use window::{Refusal, Word, accepted_word};
 
-// What a record says.
+// What a record says, in its bytes: the kind and the rank of a record that is converted are those of the book.
 #[derive(Clone, Copy)]
 pub(crate) struct Contents<'a> {
     pub(crate) kind: u8,

@@ -21,8 +21,8 @@ pub(crate) fn refusal_number(k: u8) -> i64
     -(k as i64)
 }
 
-// IC2: the number of a length or of a number of steps, or of the refusal. The bound is shown at each call: a type of
-// lengths that an `i64` holds would be made only to be taken apart here, and so be no plainer.
+// IC2: the number of a length or of a number of steps, or of the refusal. Each caller shows the bound: a type for
+// lengths that fit an `i64` would be built only to be taken apart here, which is no plainer.
 pub(crate) fn number_of(answer: Result<usize, Refusal>) -> i64
     requires { IfOk answer (λ l. l < 2 ^ 63) }
     ensures { result ≡ number_of (as_answer answer) }

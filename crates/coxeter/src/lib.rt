@@ -1,5 +1,5 @@
 // Words and windows of the Coxeter groups of kinds A, B and D: definitions in specs/, laws in proofs/. The code has the
-// kinds, the groups, the refusals and what a length is made of.
+// types: kinds, groups, words, windows, refusals, lengths, and which of two words is better.
 #![tactic(auto)]
 
 ghost use Rattle.std.specs.Prelude.{◌≡◌, ◌+◌, ◌≤◌, MatchResult};
@@ -129,7 +129,7 @@ pub enum Refusal {
 }
 
 impl Refusal {
-    // CO3: the number of a refusal.
+    // CO3: the number of a refusal. Not by `From`, whose member would say it in place of a clause.
     pub fn number(self) -> u8
         ensures { result ≡ number self }
     {

@@ -1,7 +1,8 @@
 // The delay table of a kind and a rank: how many windows have each length, the longest window and its normal form.
 //
 // No public function has a `requires`: every input is checked, and what the call returns and writes is a definition
-// of distribution/specs/Calls for every input, refused ones included. So kinds come as numbers (K2).
+// of distribution/specs/Calls for every input, refused ones included. Kinds come as numbers and are
+// checked here, as K2 and C5 promise.
 #![tactic(auto)]
 
 mod counting;

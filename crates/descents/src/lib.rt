@@ -2,7 +2,8 @@
 // make a window shorter.
 //
 // No public function has a `requires`: every input is checked in the order of CO2, and what a call returns and
-// writes is a definition of shortest_words/specs for every input, refused ones included. So kinds come as numbers (K2).
+// writes is a definition of shortest_words/specs for every input, refused ones included. Kinds come as numbers
+// and are checked here, as K2 and C5 promise.
 #![tactic(auto)]
 
 mod allowed;

@@ -1,5 +1,5 @@
 // Steps that make a window shorter (descents), taken in place: one comparison of two entries, and where they are
-// crossed one or two stores.
+// crossed one or two stores. That the array is a window stays a clause, as in the crate `window`.
 ghost use Rattle.std.specs.Prelude.{◌≡◌, ◌+◌, ◌<◌, ◌≤◌, nat_abs, pos, neg_ℤ, length, get_or};
 ghost use Rattle.coxeter.specs.Kinds.{pick};
 ghost use Rattle.coxeter.specs.Windows.{from, swap, negate_first, swap_negate, act};

@@ -11,7 +11,8 @@ ghost use Rattle.shortest_words.proofs.Verdicts.{Decided};
 use crate::steps::take_descent;
 use coxeter::{Group, Refusal};
 
-// A letter that is not kept becomes 0. Returns how many are kept; `w` becomes what is left of the target.
+// A letter that is not kept becomes 0, in place, since there is no second array. Returns how many are kept; `w`
+// becomes what is left of the target.
 fn keep_letters(group: Group, word: &mut [u8], w: &mut [i8]) -> usize
     requires word_of { WordOf group.rank word.old }
     requires window_of { WindowOf group.kind group.rank w.old }
@@ -42,7 +43,7 @@ fn is_identity(w: &[i8]) -> bool
     true
 }
 
-// The places of the letters that were kept, written to the front of `places`.
+// The places of the letters that were kept, written to the front of `places`; `at` counts them, and not the letters.
 fn write_places(word: &[u8], places: &mut [u16])
     requires word_len_bound { length word.now ≤ 4096 }
     requires word_in_bounds { length (marked 0 word.now) ≤ length places.old }

@@ -10,7 +10,7 @@ ghost use Rattle.listing_text.specs.Text.{decimal, kind_letter, head, tail, pres
 use crate::numbers::{put_bytes, put_decimal, put_entries, put_letters, put_spaced};
 use window::{Group, Kind, Refusal};
 
-// K2: the letter of a kind. Not by `Display`, whose contract says nothing of the bytes.
+// K2: the letter of a kind. Not by `Display`: what it writes is known only of a `String`, which needs the heap.
 #[tactic(auto, unfolding(listing_text::specs::Text::kind_letter))]
 fn kind_letter(kind: Kind) -> u8
     ensures { result ≡ kind_letter kind }

@@ -1,10 +1,10 @@
 // Numbers, letters and entries as text. Each function writes from the place `at` on and returns the place after
-// what it wrote.
+// what it wrote. A struct of buffer and place would need a clause more in each function, that the buffer is the same one.
 ghost use Rattle.std.specs.Prelude.{◌+◌, ◌≤◌, length};
 ghost use Rattle.coxeter.proofs.Lists.{Stored};
 ghost use Rattle.listing_text.specs.Text as text;
 
-// A number in decimal: the digits before the last one first. By `itoa`, with a buffer of its own for each number, a
+// A number in decimal: the digits before the last one first. With `itoa`, which needs a buffer for each number, a
 // listing takes a tenth longer.
 pub(crate) fn put_decimal(out: &mut [u8], at: usize, x: usize) -> usize
     requires { at + length (text.decimal x) ≤ length out.old }
@@ -19,7 +19,7 @@ pub(crate) fn put_decimal(out: &mut [u8], at: usize, x: usize) -> usize
     last + 1
 }
 
-// The bytes of `part`. Three crates have such a function of their own: a public one would need a `requires`.
+// The bytes of `part`. Three crates have their own copy: a public one would need a `requires`.
 pub(crate) fn put_bytes(out: &mut [u8], at: usize, part: &[u8]) -> usize
     requires { at + length part.now ≤ length out.old }
     ensures { Stored out.old at part.now out.new result }
@@ -37,7 +37,8 @@ pub(crate) fn put_spaced(out: &mut [u8], at: usize, x: usize) -> usize
     put_decimal(out, at + 1, x)
 }
 
-// Each letter after one space.
+// Each letter after one space. Letters and entries have a loop each: one for both would take a closure, and a clause on
+// what it writes, for a line less.
 pub(crate) fn put_letters(out: &mut [u8], at: usize, word: &[u8]) -> usize
     requires { at + length (text.letters word.now) ≤ length out.old }
     ensures { Stored out.old at (text.letters word.now) out.new result }

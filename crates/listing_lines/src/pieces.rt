@@ -59,8 +59,8 @@ fn put_nth(
     put_preset(book, i - 1, answer, out)
 }
 
-// The preset of line i; line 0, which has none, gets that of line 1. A preset behind the run in hand is read with a run
-// of its own, which is then in hand.
+// The preset of line i; line 0, which has none, gets that of line 1. A preset past the current run is read with a new
+// run, which becomes the current one.
 fn preset_of(run: &mut Run, edition: Edition, book: &[u8], i: usize) -> Result<Preset, Refusal>
     requires begins { run.old.first ≤ i - 1 }
     requires presets { map as_preset run.old.presets ≡ map (checked_preset edition book.now) (up run.old.first 128) }
@@ -75,8 +75,8 @@ fn preset_of(run: &mut Run, edition: Edition, book: &[u8], i: usize) -> Result<P
     run.presets[number - run.first]
 }
 
-// P11: writes the line of a refused book, such as `book refused 13`, to the front of `out` and returns its length. Check
-// 14.
+// P11: writes the line of a refused book, such as `book refused 13`, to the front of `out` and returns its length. The
+// number may be any, as before there were refusals by name. Check 14.
 pub fn refused_book(refusal: u8, out: &mut [u8]) -> Result<usize, Refusal>
     ensures { Yields (writes 0 (refused_book_line refusal) out.old) (as_answer result) out.new }
 {

@@ -8,7 +8,7 @@ ghost use Rattle.messages.specs.Messages.{message, refusal_message};
 
 pub use coxeter::Refusal;
 
-// CM1: the message of a refusal's number; a number that is none has no message.
+// CM1: the message of a refusal's number; a number that is no refusal has no message, and so the parameter is a number.
 #[tactic(auto, unfolding(crate::specs::Messages::message, crate::specs::Messages::messages, crate::specs::Messages::codes, crate::specs::Messages::codes_from))]
 fn text_of(refusal: u8) -> &'static [u8]
     ensures { result.now ≡ message refusal }
@@ -53,8 +53,8 @@ fn text_of(refusal: u8) -> &'static [u8]
     }
 }
 
-// The message of a refusal, written to the front of `out`. A number that is none has no message: it gets the length 0.
-// Refusal 14.
+// The message of a refusal, written to the front of `out`. A number that is no refusal has no message: the length is
+// 0. Refusal 14.
 pub fn refusal_message(refusal: u8, out: &mut [u8]) -> Result<usize, Refusal>
     ensures { Yields (refusal_message refusal out.old) (as_answer result) out.new }
 {

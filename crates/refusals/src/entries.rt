@@ -7,12 +7,7 @@ ghost use Rattle.coxeter.specs.Length.{negative};
 pub fn size(e: i8) -> u8
     ensures { result ≡ nat_abs e }
 {
-    if e < 0 {
-        let below = -1 - e;
-        (below as u8) + 1
-    } else {
-        e as u8
-    }
+    e.unsigned_abs()
 }
 
 // L4: whether an entry is below 0; 0 is not.

@@ -1,5 +1,5 @@
 // Checks 5 to 11 (section C of the specification), each made by one function, for the calls of every layer above: what
-// passed is handed on as a group, a word or a window, and what did not as its refusal. No public function has a
+// passes is handed on as a group, a word or a window; what does not is refused. No public function has a
 // `requires`, and none writes anything.
 #![tactic(auto)]
 

@@ -45,7 +45,7 @@ impl Steps<'_> {
         self.made += 1;
     }
 
-    // The steps by which a letter passed m others, from place q on.
+    // The steps by which the letter at q passed the m letters before it.
     fn note_passed(&mut self, m: usize, q: usize, left: usize)
         requires few { self.old.made ≤ 8386560 }
         requires m_le_q { (m ≤ q) × (q ≤ 4096) × (left ≤ 4096) }
@@ -140,7 +140,7 @@ fn delete(word: &mut [u8], place: usize)
     word.copy_within(place + 2.., place);
 }
 
-// How many letters the word has, and where the letter stands that moves, unless it moves no further.
+// How many letters the word has, and where the moving letter stands, if it still moves.
 #[derive(Clone, Copy)]
 struct Moved {
     size: usize,

@@ -37,8 +37,8 @@ fn start_of(word: &[u8], floor: usize, from: usize, i: u8) -> usize
 }
 
 // Where a rule of families 3 to 7 that ends at q begins, if there is one: where the lower of its last two letters
-// stood before, less than 2n places back. In kinds A and B the letters between rise by ones, most often, so that x stood
-// as many places before l as it is lower; that place is tried before the search.
+// stood before, less than 2n places back. In kinds A and B the letters between mostly rise by ones, so x stood l - x
+// places before l; that place is tried first.
 fn place_of(group: Group, word: &[u8], q: usize) -> usize
     requires { Reading group.kind group.rank word.now q × (1 ≤ q) × (q < length word.now) × (q ≤ 4096) }
     ensures { (result ≤ q)

@@ -1,5 +1,5 @@
 // The rewriter layer: one rewrite at a named place, and the rewriting to its end (I19 to I21 of the specification).
-// No public function has a `requires`, so kinds come as numbers (K2).
+// No public function has a `requires`. Kinds come as numbers and are checked here, as K2 and C5 promise.
 #![tactic(auto)]
 
 ghost use Rattle.std.specs.Prelude.{◌≡◌};
@@ -29,7 +29,7 @@ pub fn rewrite_at(kind: u8, rank: u8, word: &[u8], place: usize, out: &mut [u8])
 {
     let word = match accepted_word(kind, rank, word) {
         Ok(word) => word,
-        // The requirement names the outcome `Rewrite`, in which a refusal is a number.
+        // G14 names the outcome `Rewrite`, in which a refusal is a number.
         Err(refusal) => return Rewrite::Refused(refusal.number()),
     };
     let size = word.letters.len();

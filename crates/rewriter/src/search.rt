@@ -9,8 +9,8 @@ ghost use Rattle.rules.proofs.Scan.{next_index, family_at_end, family_at, shown_
 
 use window::{Group, Kind, Word};
 
-// A rule that fits, as a rewrite returns it, with the length of its left side. Families are the numbers of the
-// requirement, 1 to 7, which the outputs show.
+// A rule that fits, as a rewrite returns it, with the length of its left side. Families are the numbers 1 to
+// 7 that the answers show (R2).
 #[derive(Clone, Copy)]
 pub(crate) struct Fitting {
     pub(crate) family: u8,
@@ -30,7 +30,7 @@ pub(crate) fn levels_of(group: Group) -> u8
 }
 
 // The way of the blocks of level i: the step at which it turns, the last index, and the step after which it goes on
-// with n - 1 or with n, which only kind D has.
+// with n - 1 or with n, which only kind D has: 0 elsewhere, which is no step, so that one comparison serves every kind.
 #[derive(Clone, Copy)]
 pub(crate) struct Way {
     group: Group,

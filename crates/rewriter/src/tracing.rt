@@ -31,7 +31,7 @@ fn read(word: Word<'_>, steps: &mut Steps<'_>, work: &mut [u8]) -> usize
 }
 
 // The rewriting of an accepted word, noted in three equally long lists as far as they go; the final word is left at
-// the front of `work`.
+// the front of `work`. The lists are lent one by one, since the proof does not close where a struct of parts of slices is.
 fn make(
     word: Word<'_>,
     families: &mut [u8],
@@ -57,7 +57,7 @@ fn make(
     }
 }
 
-// How many steps the rewriting of an accepted word has, and how many letters its final word, by a work array of N
+// How many steps the rewriting of an accepted word has, and how many letters its final word, with a work array of N
 // letters. No step is noted.
 fn count_in<const N: usize>(word: Word<'_>) -> Rewriting
     requires word_in_bounds { (length word.letters.now ≤ N) × (N ≤ 4096) }

@@ -9,8 +9,7 @@ ghost use Rattle.coxeter.specs.Calls.{front};
 use crate::search::Fitting;
 use window::Word;
 
-// `part` written to `out` from `at` on. Three crates have such a function of their own: a public one would need a
-// `requires`.
+// `part` written to `out` from `at` on. Three crates have their own copy: a public one would need a `requires`.
 pub(crate) fn copy(part: &[u8], out: &mut [u8], at: usize)
     requires { at + length part.now ≤ length out.old }
     ensures { out.new ≡ sets out.old at part.now }

@@ -41,8 +41,8 @@ fn letters_of(edition: Edition, book: &[u8], number: usize) -> &[u8]
     preset_letters(open(edition, book), number)
 }
 
-// Whether the preset is found with this kind and rank, and so many letters from byte `start` on. A preset to compare it with
-// would need a group, which is no plainer.
+// Whether the preset is found with this kind and rank, and so many letters from byte `start` on. Presets and groups are not
+// compared by `==`, since nothing else would use it.
 fn is_found(
     answer: Result<Preset, Refusal>,
     kind: Kind,

@@ -1,4 +1,5 @@
-// Steps on a window, in place: each changes one or two entries, so a word costs constant work a letter.
+// Steps on a window, in place: each changes one or two entries, so a word costs constant work a letter. That the array is a
+// window stays a clause: a type that lends the array would have to hold between two stores, when it is none.
 ghost use Rattle.std.specs.Prelude.{◌≡◌, ◌+◌, ◌<◌, ◌≤◌, nat_abs, pos, length, get_or};
 ghost use Rattle.coxeter.specs.Kinds.{lanes};
 ghost use Rattle.coxeter.specs.Windows.{from, swap, negate_first, swap_negate, act, window_from, identity, window};
@@ -73,8 +74,7 @@ pub(crate) fn apply(word: Word, w: &mut [i8])
     }
 }
 
-// 1, 2, 3 and so on, counted in a byte that begins at 1: a count from 0, as the places have, would be made from them,
-// and each entry narrowed from 64 bits.
+// 1, 2, 3, .., counted in a byte: with `enumerate` each entry would be narrowed from 64 bits.
 fn set_identity(w: &mut [i8])
     requires { length w.old ≤ 127 }
     ensures { w.new ≡ identity (length w.old) }

@@ -98,7 +98,8 @@ pub(crate) fn write_product(pair: Windows, out: &mut [i8]) -> Result<usize, Refu
     Ok(m)
 }
 
-// I36, I10, C14: the inverse of a window, to the front of `out`.
+// I36, I10, C14: the inverse of a window, to the front of `out`. The three calls of this shape write by a function each;
+// one that took it as a closure would be no plainer.
 pub fn write_inverse(w: Window, out: &mut [i8]) -> Result<usize, Refusal>
     ensures { Yields (writes 0 (inverse w.entry.entries.now) out.old) (as_answer result) out.new }
 {

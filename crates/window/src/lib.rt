@@ -4,10 +4,8 @@
 // The calls of the specification take kinds and ranks as numbers (K2, K4), words as bytes and windows as signed bytes.
 // No public function has a `requires`: every input is checked in the order of CO2, and what a call returns and writes
 // is a definition of coxeter/specs/Calls for every input, refused ones included. An accepted call writes to the front
-// of its output and leaves what lies behind (I2); a refused one writes nothing (CO6).
-//
-// For the layers above, `lacks_room` and the calls whose names begin with `write` take a word or a window that passed
-// its checks. They make check 14 alone.
+// of its output and leaves what lies behind (I2); a refused one writes nothing (CO6). For the layers above,
+// `lacks_room` and the calls whose names begin with `write` take a word or a window that passed its checks.
 #![tactic(auto)]
 
 mod action;

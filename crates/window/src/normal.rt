@@ -23,7 +23,9 @@ struct Shape {
     ghost ranked: { Ranked kind entries },
 }
 
-// Writes the letters from a up to b from the place `at` on and returns the place after them.
+// Writes the letters from a up to b from the place `at` on and returns the place after them. r is counted by hand: as
+// `iter_mut().enumerate()` short runs took longer. A struct of buffer and place would need a clause more in each function
+// here, that the buffer is the same one.
 fn write_up(out: &mut [u8], at: usize, a: usize, b: usize) -> usize
     requires { (b < 256) × (at + length (rise a b) ≤ length out.old) }
     ensures { (result ≡ at + length (rise a b)) × (out.new ≡ sets out.old at (rise a b)) }
@@ -104,7 +106,7 @@ fn write_block(shape: Shape, i: usize, j: usize, out: &mut [u8], at: usize) -> u
     write_turned(shape, i, j, out, at)
 }
 
-// The place of an entry: its position p, and 128 more if it is negative.
+// The place of an entry: its position p, and 128 more if it is negative, so that one load gives both, from 64 bytes.
 fn place_of(e: i8, p: u8) -> u8
     requires { p < 128 }
     ensures { result ≡ place_of e p }

@@ -1,6 +1,5 @@
-// Windows made in a work window of 64 entries, which is lent by the caller and lent on as the window that it holds. It
-// is not handed back by value: a copy of sixteen bytes at a time waits until the bytes that were just stored one by one
-// are in memory. What is made of accepted words and windows is not checked: it passes because they do.
+// Windows made in a work array of 64 entries, which the caller lends; each is returned as a `Window` of it. The array is
+// not returned by value: a copy in blocks of sixteen bytes would wait for the single bytes just stored. What is made of accepted words and windows is not checked: it passes because they do.
 ghost use Rattle.std.specs.Prelude.{◌≡◌};
 ghost use Rattle.coxeter.specs.Windows.{window, product, inverse};
 
