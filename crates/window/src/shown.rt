@@ -1,5 +1,6 @@
 // Windows made in a work array of 64 entries, which the caller lends; each is returned as a `Window` of it. The array is
-// not returned by value: a copy in blocks of sixteen bytes would wait for the single bytes just stored. What is made of accepted words and windows is not checked: it passes because they do.
+// not returned by value: a copy in blocks of sixteen bytes would wait for the single bytes just stored. What is made of
+// accepted words and windows is not checked: it passes because they do.
 ghost use Rattle.std.specs.Prelude.{◌≡◌};
 ghost use Rattle.coxeter.specs.Windows.{window, product, inverse};
 
