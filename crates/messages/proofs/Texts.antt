@@ -1,19 +1,20 @@
--- A text that is written, the numbers that have no message, and the messages' lengths, at most 255 each.
+-- A text that is written, the numbers that have no message, the messages' lengths, at most 255 each, and where each
+-- message stands in a table of texts: by induction over the texts.
 -- Assumes nothing.
 use mathlib.Core.Path.{◌≡◌, refl, sym, ap, ◌∙◌}
 use mathlib.Core.Bool.{Bool, true, false, ◌&&◌}
-use mathlib.Core.List.{List, [], ◌∷◌, ◌++◌, map}
-use Prim.Native.Nat.{ℕ, zero, suc, ◌+◌, ◌≤◌, ◌<◌, zero-le}
+use mathlib.Core.List.{List, [], ◌∷◌, ◌++◌, append_assoc, map}
+use Prim.Native.Nat.{ℕ, zero, suc, ◌+◌, ◌-◌, ◌≤◌, ◌<◌, zero-le}
 use Prim.Native.Char.{code}
 use Prim.Native.String.{String, len, char_at}
 use native.Mathlib.Nat.{le_refl}
 use native.Mathlib.Numerals.{add-one}
 use native.Mathlib.Omega.{arith}
 use lib.Dec.{T, leb, leb→le}
-use lib.ListN.{length, get_or, take, drop, get_or-eq_default}
-use lib.Seq.{take_all}
+use lib.ListN.{length, get_or, take, drop, length-append, get_or-eq_default}
+use lib.Seq.{take_all, take_at, drop_at}
 use borrow.Author.Tests.{lt-ltb, le-ltb}
-use Rattle.coxeter.specs.answers.Answer.{Length, Refused}
+use Rattle.coxeter.specs.answers.Answer.{Answer, Length, Refused}
 use Rattle.coxeter.specs.Kinds.{up}
 use Rattle.coxeter.specs.Checks.{too_short}
 use Rattle.coxeter.specs.Calls.{Yields, answer_of, written, writes, front}
@@ -54,12 +55,6 @@ unfolding message messages codes codes_from
 message_unknown zero h = absurd (omega arith)
 message_unknown (suc k) h = ap codes (get_or-eq_default messages "" {n = k} (omega arith))
 
--- nor has any number that is not from 1 to 21
-pub message_unsaid : (k : ℕ) → (1 ≤ k → 21 < k) → ◌≡◌ {A = List ℕ} [] (message k)
-unfolding message codes codes_from
-message_unsaid zero h = refl
-message_unsaid (suc k) h = sym (message_unknown (suc k) (h (omega arith)))
-
 pub unknown_alike : (k : ℕ) (out : List ℕ) → 21 < k → refusal_message k out ≡ refusal_message 0 out
 unfolding refusal_message
 unknown_alike k out h = ap (λ (s : List ℕ). writes 0 s out) (message_unknown k h)
@@ -98,3 +93,62 @@ pub length-message : (k : ℕ) → length (message k) ≤ 255
 unfolding message codes messages short
 length-message zero = omega arith
 length-message (suc k) = rw (length-codes_from (get_or messages k "") (len (get_or messages k "")) 0) (len_short 255 messages tt k)
+
+-- ---- texts in a table
+
+-- texts one after the other
+unfoldable pub joined : List String → List ℕ
+joined [] = []
+joined (t ∷ l) = codes t ++ joined l
+
+-- where each of them ends, if the first begins at a
+unfoldable pub ends : ℕ → List String → List ℕ
+ends a [] = []
+ends a (t ∷ l) = (a + len t) ∷ ends (a + len t) l
+
+-- a text stands among bytes, from place a up to e
+pub record StandsAmong (text bytes : List ℕ) (a e : ℕ) : Type 0 where
+  before : List ℕ
+  after : List ℕ
+  whole : bytes ≡ before ++ (text ++ after)
+  start : length before ≡ a
+  end : a + length text ≡ e
+
+-- then it is that part of the bytes
+module _ {text bytes : List ℕ} {a e : ℕ} (s : StandsAmong text bytes a e) where
+  pub stands_rises : a ≤ e
+  stands_rises = omega arith
+
+  pub stands_within : e ≤ length bytes
+  stands_within =
+      let l : length bytes ≡ length s.before + (length text + length s.after) = ap length s.whole ∙ simp length-append in
+      omega arith
+
+  pub stands_part : take (e - a) (drop a bytes) ≡ text
+  stands_part =
+      let n : e - a ≡ length text = omega arith in
+      rw (n, s.whole, ← s.start, drop_at, take_at)
+
+-- each of the texts stands from one end to the next
+joined_stands : (l : List String) (k a : ℕ) (before : List ℕ) → length before ≡ a → k < length l
+    → StandsAmong (codes (get_or l k "")) (before ++ joined l) (get_or (a ∷ ends a l) k 0) (get_or (ends a l) k 0)
+unfolding joined ends codes
+joined_stands [] k a before e h = absurd (omega arith)
+joined_stands (t ∷ l) zero a before e h =
+    record { before = before; after = joined l; whole = refl; start = e; end = ap (λ (m : ℕ). a + m) (length-codes_from t (len t) 0) }
+joined_stands (t ∷ l) (suc k) a before e h =
+    let e' : length (before ++ codes t) ≡ a + len t = simp (length-append, length-codes_from t (len t) 0, e) in
+    rw (← append_assoc) (joined_stands l k (a + len t) (before ++ codes t) e' (omega arith))
+
+-- ---- messages in a table, the empty one of 0 too
+
+pub message_stands : (k : ℕ) → k ≤ 21
+    → StandsAmong (message k) (joined messages) (get_or (0 ∷ 0 ∷ ends 0 messages) k 0) (get_or (0 ∷ 0 ∷ ends 0 messages) (k + 1) 0)
+unfolding message messages joined ends
+message_stands zero h = record { before = []; after = joined messages; whole = refl; start = refl; end = refl }
+message_stands (suc k) h = rw (add-one (suc k)) (joined_stands messages k 0 [] refl (omega arith))
+
+pub said : (k : ℕ) (s out after : List ℕ) (a : Answer) → s ≡ message k → Yields (writes 0 s out) a after
+    → Yields (refusal_message k out) a after
+unfolding refusal_message
+said k s out after a e y = rw (← e) y
