@@ -94,7 +94,7 @@ class Definitions:
                 page.fence("rust", comment + made.text)
                 page.add(page.link([f"{made.name} in {made.path.removeprefix('crates/')}"], page.to(made.path, f"L{made.line}")), "")
         body, page.lines = page.lines, contents
-        page.say("[All crates](../DEFINITIONS.md). " + " · ".join(f"[{file}](#{file.lower()})" for file in files)
+        page.say("[All crates](../DEFINITIONS.md). " + " · ".join(f"[{file}](#{file.lower().replace('/', '')})" for file in files)
                  + (" · [Types of Rattle](#types-of-rattle)" if types else ""))
         shift = len(page.lines)
         page.lines += body
