@@ -11,12 +11,14 @@ pub(crate) fn two_at(b: &[u8], p: usize) -> usize
     u16::from_le_bytes([b[p], b[p + 1]]) as usize
 }
 
-// The number x modulo 65,536, written at p.
+// The number x modulo 65,536, written at p, byte by byte: a copy of the two would wait for their stores.
 pub(crate) fn put_two(out: &mut [u8], p: usize, x: usize)
     requires { p + 1 < length out.old }
     ensures { out.new ≡ sets out.old p (two x) }
 {
-    copy_to(&((x % 65536) as u16).to_le_bytes(), out, p);
+    let bytes = ((x % 65536) as u16).to_le_bytes();
+    out[p] = bytes[0];
+    out[p + 1] = bytes[1];
 }
 
 // The elements of `part` written from p on. Three crates have their own copy: a public one would need a `requires`.

@@ -14,7 +14,7 @@ ghost use Rattle.book_format.specs.Conversion.{too_many_lanes, record_conversion
 
 use crate::numbers::two_at;
 use book_format::{Edition, Preset};
-use window::{Group, Kind, Refusal, accepted_word, group_of};
+use window::{Group, Kind, Refusal, accepted_letters, group_of};
 
 // Where a record has its letter count.
 pub(crate) fn count_place(edition: Edition) -> usize
@@ -174,7 +174,7 @@ impl<'a> Record<'a> {
         if self.has_wrong_lanes(group.lanes()) {
             return Err(Refusal::WrongLaneCount);
         }
-        accepted_word(kind, rank, self.letters())?;
+        accepted_letters(group, self.letters())?;
         Ok(Preset {
             group,
             start: self.letters_start(),

@@ -8,7 +8,6 @@ ghost use Rattle.book_format.specs.answers.Preset.{as_preset};
 ghost use Rattle.book_format.specs.Calls.{checked_book, checked_preset, fields_of, preset_fields, reading_presets};
 
 use crate::checked::{CheckedBook, LARGEST};
-use crate::numbers::copy_to;
 use book_format::{Edition, Preset, Run};
 use window::Refusal;
 
@@ -28,13 +27,25 @@ fn numbers_of(answer: Result<Preset, Refusal>) -> [u64; 5]
     }
 }
 
+// Five numbers written from p on, one by one: a copy of the array would wait for its stores.
+fn put_five(numbers: &[u64; 5], fields: &mut [u64], p: usize)
+    requires { p + 5 ≤ length fields.old }
+    ensures { fields.new ≡ sets fields.old p numbers.now }
+{
+    fields[p] = numbers[0];
+    fields[p + 1] = numbers[1];
+    fields[p + 2] = numbers[2];
+    fields[p + 3] = numbers[3];
+    fields[p + 4] = numbers[4];
+}
+
 // The numbers of n presets from preset `first` on.
 fn put_run(book: &CheckedBook, first: usize, n: usize, fields: &mut [u64])
     requires { (first + n ≤ book.now.presets) × (5 * n ≤ length fields.old) }
     ensures { fields.new ≡ sets fields.old 0 (preset_fields book.now.edition book.now.bytes.now n first) }
 {
     for i in 0..n {
-        copy_to(&numbers_of(book.preset(first + i)), fields, 5 * i);
+        put_five(&numbers_of(book.preset(first + i)), fields, 5 * i);
     }
 }
 

@@ -220,7 +220,7 @@ pub record AreBytes (k n l m : ℕ) : Type 0 where
   pub kind : l ≡ byte_of k
   pub rank : m ≡ byte_of n
 
-verdict_as_bytes : {k n k₂ n₂ l m l₂ m₂ : ℕ} (u v : List ℕ) → AreBytes k n l m → AreBytes k₂ n₂ l₂ m₂
+pub verdict_as_bytes : {k n k₂ n₂ l m l₂ m₂ : ℕ} (u v : List ℕ) → AreBytes k n l m → AreBytes k₂ n₂ l₂ m₂
     → presets_equal l m u l₂ m₂ v ≡ presets_equal k n u k₂ n₂ v
 verdict_as_bytes {k} {n} {k₂} {n₂} {l} {m} {l₂} {m₂} u v a b =
     as_bytes (first_refusable u l₂ m₂ v) k n l m a.kind a.rank ∙ as_bytes (second_refusable k n u v) k₂ n₂ l₂ m₂ b.kind b.rank

@@ -1,4 +1,5 @@
--- Every length that a call for C answers fits an `i64`, by the checks that were made before.
+-- Every length that a call for C answers fits an `i64`: it is at most that of the longest book, by the checks that
+-- were made before.
 --
 -- Sections: numbers; answers; the window layer; the layers above it.
 -- Assumes nothing.
@@ -118,9 +119,9 @@ numbers_alike z a after o h e q = rw (i64_back z h, e, q.0, q.1)
 
 -- ---- answers
 
--- an `i64` holds the length that an answer gives
+-- a length that an answer gives is at most that of the longest book
 abbrev pub Small : Answer → Type 0
-Small a = (l : ℕ) → a ≡ answer.Length l → l < 2 ^ 63
+Small a = (l : ℕ) → a ≡ answer.Length l → l ≤ 65535
 
 answer_of_small : (r m : ℕ) → (r ≡ 0 → m ≤ 65535) → Small (answer_of r m)
 answer_of_small r m h l e = let p = ((answer_of_exactly r m).1 l).0 e in omega (arith, h p.0, p.1)
@@ -131,10 +132,14 @@ writes_small r l out h =
     let short = check 14 (too_short (length l) out) in
     answer_of_small (r then short) (length l) (λ z. h (then_zero r short z).0)
 
--- so the length of a result that is such an answer fits
+-- the length of a result fits, if it is below 2 ^ 63
+pub fits_below : (r : Result ℕ Refusal) {a : Answer} → as_answer r ≡ a → ((l : ℕ) → a ≡ answer.Length l → l < 2 ^ 63) → IfOk r (λ (l : ℕ). l < 2 ^ 63)
+fits_below (Ok l) e s = s l (sym e)
+fits_below (Err r) e s = tt
+
+-- so that of a result which is a small answer fits
 pub fits : (r : Result ℕ Refusal) {a : Answer} → as_answer r ≡ a → Small a → IfOk r (λ (l : ℕ). l < 2 ^ 63)
-fits (Ok l) e s = s l (sym e)
-fits (Err r) e s = tt
+fits r e s = fits_below r e (λ l q. omega (arith, s l q))
 
 -- and the total of counts that are such ones
 pub total_fits : (r : Result LengthCounts Refusal) {a : Counted} → as_counted r ≡ a → SmallTotal a

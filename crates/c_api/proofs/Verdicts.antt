@@ -6,7 +6,7 @@
 use mathlib.Core.Path.{◌≡◌, ap, ◌∙◌}
 use mathlib.Core.Logic.{inl, inr}
 use mathlib.Core.List.{List}
-use Prim.Native.Nat.{ℕ, ◌<◌, ◌^◌}
+use Prim.Native.Nat.{ℕ, ◌≤◌}
 use native.Mathlib.Omega.{arith}
 use lib.IntN.{ℤ}
 use borrow.Author.Tests.{ne_eqb}
@@ -37,7 +37,7 @@ module _ (k n : ℕ) {l m : ℕ} {present simpler places after : List ℕ} {a : 
   pub fallback_numbered : {z : ℤ} → z ≡ fallback_number a → FallbackNumbered k n present simpler places z after
   fallback_numbered p = let q = fell_back_as_bytes.answer in (p ∙ ap fallback_number q, rw q at fell_back_as_bytes)
 
-pub fallback_size : {l m : ℕ} {present simpler places after : List ℕ} {s : ℕ} → FellBack l m present simpler places (Kept s) after → s < 2 ^ 63
+pub fallback_size : {l m : ℕ} {present simpler places after : List ℕ} {s : ℕ} → FellBack l m present simpler places (Kept s) after → s ≤ 65535
 fallback_size {l} {m} {present} {simpler} {places} {after} {s} h = omega (arith, kept_le l m present simpler places after s h)
 
 -- ---- from one window to another

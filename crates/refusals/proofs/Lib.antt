@@ -1,3 +1,2 @@
 -- What code that checks or makes entries shares.
-pub mod Backwards
 pub mod Bytes

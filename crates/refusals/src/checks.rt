@@ -57,14 +57,22 @@ fn check_word(rank: u8, word: &[u8]) -> Result<(), Refusal>
     Ok(())
 }
 
+// I36: the word of a group with these letters, after checks 7 and 8.
+pub fn accepted_letters<'a>(group: Group, letters: &'a [u8]) -> Result<Word<'a>, Refusal>
+    ensures refusal { refusal_of result ≡ word_refusal group.rank letters.now }
+    ensures word { IfOk result (λ u. (u.group.kind ≡ group.kind) × (u.group.rank ≡ group.rank) × (u.letters ≡ letters.entry)) }
+{
+    check_word(group.rank, letters)?;
+    Ok(Word { group, letters })
+}
+
 // I33: the word of a preset, after checks 5 to 8.
 pub fn accepted_word<'a>(kind: u8, rank: u8, letters: &'a [u8]) -> Result<Word<'a>, Refusal>
     ensures refusal { refusal_of result ≡ (rank_refusal kind rank then word_refusal rank letters.now) }
     ensures word { IfOk result (λ u. (u.group.kind ≡ kind_of kind) × (u.group.rank ≡ rank) × (u.letters ≡ letters.entry)) }
 {
     let group = group_of(kind, rank)?;
-    check_word(rank, letters)?;
-    Ok(Word { group, letters })
+    accepted_letters(group, letters)
 }
 
 // I33, CO4: the words of two presets, after checks 5 to 8 of both, all of the first's before the second's.

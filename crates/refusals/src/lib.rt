@@ -7,7 +7,7 @@ mod checks;
 mod entries;
 mod windows;
 
-pub use checks::{accepted_presets, accepted_word, accepted_words, group_of};
+pub use checks::{accepted_letters, accepted_presets, accepted_word, accepted_words, group_of};
 pub use coxeter::{Group, Kind, Refusal, Window, Word};
 pub use entries::{is_negative, size};
 pub use windows::{accepted_window, accepted_windows, odd_negatives};

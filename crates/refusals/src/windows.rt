@@ -26,11 +26,12 @@ fn has_wrong_entry(kind: Kind, m: usize, w: &[i8]) -> bool
 {
     // Place p stands for the size p + 1.
     let mut marks = [false; 64];
-    for e in w.iter().rev() {
-        if negative_in_a(kind, *e) {
+    for i in (0..w.len()).rev() {
+        let e = w[i];
+        if negative_in_a(kind, e) {
             return true;
         }
-        let s = size(*e) as usize;
+        let s = size(e) as usize;
         if s == 0 {
             return true;
         }

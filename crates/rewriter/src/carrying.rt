@@ -127,7 +127,9 @@ fn carry(word: &mut [u8], place: usize, q: usize, first: u8)
     ensures { word.new ≡ take place word.old
         ++ ((first ∷ take (q - place) (drop place word.old)) ++ drop (suc q) word.old) }
 {
-    word.copy_within(place..q, place + 1);
+    for t in (place..q).rev() {
+        word[t + 1] = word[t];
+    }
     word[place] = first;
 }
 
@@ -137,7 +139,9 @@ fn delete(word: &mut [u8], place: usize)
     ensures { take (length word.old - 2) word.new
         ≡ take place word.old ++ drop (place + 2) word.old }
 {
-    word.copy_within(place + 2.., place);
+    if place + 2 < word.len() {
+        word.copy_within(place + 2.., place);
+    }
 }
 
 // How many letters the word has, and where the moving letter stands, if it still moves.
@@ -196,6 +200,10 @@ pub(crate) fn insert(group: Group, rest: &[u8], steps: &mut Steps<'_>, word: &mu
     let mut size = word.len();
     let mut place = Some(size - 1);
     while let Some(q) = place {
+        // No rule ends with the first letter.
+        if q == 0 {
+            return size;
+        }
         let at = pass(group, rest, steps, word, q);
         let made = turn(group, rest, steps, word, at);
         size = made.size;

@@ -161,8 +161,10 @@ pub(crate) fn fitting_rule(word: Word<'_>, place: usize) -> Option<Fitting>
     let letters = word.letters;
     let i = letters[place];
     let way = Way::new(word.group, i);
+    let start = place + 1;
+    let end = letters.len();
     let mut j = i;
-    for at in place + 1..letters.len() {
+    for at in start..end {
         let x = letters[at];
         let Some(next) = way.next(j, x) else {
             let family = way.family(j, x)?;

@@ -46,16 +46,18 @@ fn parts_of(window: Window) -> Parts
         × (result.negative_sum_pairs ≡ negative_sum_pairs window.entry.entries.now)
         × (result.negatives ≡ negatives window.entry.entries.now) }
 {
-    let m = window.entries.len();
+    let entries = window.entries;
+    let m = entries.len();
     let mut behind: u64 = 0;
     let mut pairs = (m * m - m) / 2;
     let mut negative_sum_pairs: usize = 0;
     let mut negatives: usize = 0;
-    for e in window.entries.iter().rev() {
-        let s = size(*e);
+    for i in (0..m).rev() {
+        let e = entries[i];
+        let s = size(e);
         let larger = larger_behind(m, behind, s);
         behind = with_size(behind, s);
-        if is_negative(*e) {
+        if is_negative(e) {
             pairs += larger;
             negative_sum_pairs += m - s as usize;
             negatives += 1;

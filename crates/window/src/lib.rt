@@ -39,11 +39,11 @@ pub use forms::{
     lacks_room, write_form, write_form_between, write_form_of_inverse, write_form_of_product,
     write_form_of_word, write_inverse, write_window,
 };
-use length::{crossings_of, length_of};
+use length::crossings_of;
 pub use pairs::Windows;
 use pairs::accepted_pair;
 use refusals::{accepted_presets, accepted_window, accepted_words};
-pub use refusals::{accepted_word, group_of};
+pub use refusals::{accepted_letters, accepted_word, group_of};
 use shown::{inverse_of, shown, shown_product};
 use words::is_shortlex;
 
@@ -178,17 +178,16 @@ pub fn normal_form_between(
 pub fn length_of_window(kind: u8, rank: u8, w: &[i8]) -> Result<usize, Refusal>
     ensures { as_answer result ≡ length_of_window kind rank w.now }
 {
-    let window = accepted_window(kind, rank, w)?;
-    Ok(length_of(window))
+    let counts = crossings_of_window(kind, rank, w)?;
+    Ok(counts.inversions + counts.negative_sum_pairs + counts.negatives)
 }
 
 // I11: the length of the word's normal form, which is written nowhere. Checks 5, 6, 7, 8.
 pub fn length_of_word(kind: u8, rank: u8, word: &[u8]) -> Result<usize, Refusal>
     ensures { as_answer result ≡ length_of_word kind rank word.now }
 {
-    let word = accepted_word(kind, rank, word)?;
-    let mut work = [0i8; 64];
-    Ok(length_of(shown(word, &mut work)))
+    let counts = crossings_of_word(kind, rank, word)?;
+    Ok(counts.inversions + counts.negative_sum_pairs + counts.negatives)
 }
 
 // I14: the length of w as its three counts: inversions, negative sum pairs and negative entries, as the kind counts

@@ -2,7 +2,7 @@
 -- Assumes nothing.
 use mathlib.Core.Path.{◌≡◌, ◌∙◌}
 use mathlib.Core.List.{List}
-use Prim.Native.Nat.{ℕ, ◌+◌}
+use Prim.Native.Nat.{ℕ, ◌+◌, ◌/◌, ◌%◌}
 use native.Mathlib.Numerals.{add-one, add-two, add-three}
 use native.Mathlib.Omega.{arith}
 use lib.ListN.{length, set}
@@ -10,6 +10,10 @@ use lib.Seq.{sets}
 use Rattle.book_format.specs.declared.Edition.{Edition}
 use Rattle.book_format.specs.declared.Edition.TheVariants.{First, Second}
 use Rattle.book_format.specs.Books.{two, lane_byte, record_of, count_place, head_size}
+
+pub sets-two : (l : List ℕ) (p x : ℕ) → set (set l p (x % 256)) (p + 1) (x / 256 % 256) ≡ sets l p (two x)
+unfolding two
+sets-two l p x = rw (add-one p)
 
 -- a record, with the lane count m: kind and rank, the lane count where there is one, the letter count at its place,
 -- and the letters

@@ -7,9 +7,9 @@ use mathlib.Core.List.{List, [], ◌∷◌, ◌++◌, map, map-append}
 use Prim.Native.Nat.{ℕ, zero, suc, ◌+◌, ◌-◌, ◌*◌, ◌≤◌, ◌<◌, min}
 use native.Mathlib.Decide.{ℕ_discrete, dec_le}
 use native.Mathlib.Nat.{add-zero, min-eq_left, min-eq_right}
-use native.Mathlib.Numerals.{add-one}
+use native.Mathlib.Numerals.{add-one, add-two, add-three, add-four}
 use native.Mathlib.Omega.{arith}
-use lib.ListN.{length, set, take, length-set}
+use lib.ListN.{length, get_or, set, take, length-set}
 use lib.Seq.{sets, take-suc-set}
 use Rattle.coxeter.specs.Kinds.{up}
 use Rattle.coxeter.proofs.Basics.{up-append}
@@ -87,6 +87,17 @@ pub run_from : (ed : Edition) (b : List ℕ) (i s n : ℕ) → s ≡ min i 65535
 run_from ed b i s n e = rw (add-zero s, add-zero i) at (run_past ed b i s 0 n e)
 
 -- ---- numbers
+
+-- five numbers stored one by one
+pub sets_five : (l : List ℕ) (p : ℕ) (u : List ℕ) → length u ≡ 5
+    → set (set (set (set (set l p (get_or u 0 0)) (p + 1) (get_or u 1 0)) (p + 2) (get_or u 2 0)) (p + 3) (get_or u 3 0)) (p + 4) (get_or u 4 0) ≡ sets l p u
+sets_five l p (a ∷ b ∷ c ∷ d ∷ e ∷ []) h = simp (add-one, add-two, add-three, add-four)
+sets_five l p [] h = absurd (omega (arith, h))
+sets_five l p (a ∷ []) h = absurd (omega (arith, h))
+sets_five l p (a ∷ b ∷ []) h = absurd (omega (arith, h))
+sets_five l p (a ∷ b ∷ c ∷ []) h = absurd (omega (arith, h))
+sets_five l p (a ∷ b ∷ c ∷ d ∷ []) h = absurd (omega (arith, h))
+sets_five l p (a ∷ b ∷ c ∷ d ∷ e ∷ f ∷ u) h = absurd (omega (arith, h))
 
 -- n presets from preset i on, of which those from j on are left
 module _ (ed : Edition) (out b : List ℕ) (n i : ℕ) where

@@ -1,10 +1,10 @@
 -- Check 10 from the last entry to the first: the sizes of the entries behind are marked, so that a repeated size is
 -- seen at once.
 -- Assumes nothing.
-use mathlib.Core.Path.{◌≡◌, sym, ◌∙◌, subst}
+use mathlib.Core.Path.{◌≡◌, sym, ap, ◌∙◌, subst}
 use mathlib.Core.Bool.{Bool, true, false, or-true}
 use mathlib.Core.List.{List, [], ◌∷◌}
-use Prim.Native.Nat.{ℕ, zero, suc, ◌-◌, ◌≤◌, ◌<◌}
+use Prim.Native.Nat.{ℕ, zero, suc, ◌+◌, ◌-◌, ◌≤◌, ◌<◌}
 use native.Mathlib.Decide.{ℕ_discrete}
 use native.Mathlib.Nat.{le_refl}
 use native.Mathlib.Omega.{arith}
@@ -14,7 +14,7 @@ use lib.Seq.{get_or-set_same, get_or-set_other}
 use borrow.Author.Tests.{eq-eqb, ne_eqb}
 use Rattle.coxeter.specs.declared.Kind.{Kind}
 use Rattle.coxeter.specs.Checks.{wrong_at, wrong_entry, has_size, negative_in_A}
-use Rattle.refusals.proofs.Backwards.{LastTaken}
+use Rattle.coxeter.proofs.Lists.{drop_next}
 use Rattle.refusals.proofs.checks.Tests.{wrong_at-negative, wrong_at_zero, wrong_at-above, wrong_at_repeats, wrong_at_else}
 
 -- an entry that is wrong behind is wrong in the whole
@@ -45,44 +45,52 @@ marked_from_none {w} h =
 pub whole_passed : {k : Kind} {m : ℕ} {w : List ℤ} {marks : List Bool} {j : ℕ} → MarkedFrom k m w marks j → j ≡ 0 → wrong_entry k m w ≡ false
 whole_passed {k} {m} {w} h z = subst (λ (x : ℕ). wrong_entry k m (drop x w) ≡ false) z h.right
 
--- one entry further to the front: e is the last of `front`, and `rest` are those before it
-module _ (k : Kind) (m : ℕ) {w : List ℤ} {marks : List Bool} {front rest : List ℤ} {e : ℤ} (h : MarkedFrom k m w marks (length front)) (l : LastTaken front rest w e (pos 0)) where
-  wrong : wrong_at k m e (drop (length front) w) ≡ true → true ≡ wrong_entry k m w
+-- one entry further to the front: the entry at j - 1
+module _ (k : Kind) (m : ℕ) (w : List ℤ) (marks : List Bool) (j : ℕ) (h : MarkedFrom k m w marks j) (l : 0 < j) where
+  abbrev e : ℤ
+  e = get_or w (j - 1) (pos 0)
+
+  next : drop (j - 1) w ≡ e ∷ drop j w
+  next =
+      let i : j - 1 + 1 ≡ j = omega arith in
+      drop_next w (j - 1) (pos 0) (omega (arith, h.inside)) ∙ ap (λ (x : ℕ). e ∷ drop x w) i
+
+  wrong : wrong_at k m e (drop j w) ≡ true → true ≡ wrong_entry k m w
   unfolding wrong_entry
-  wrong t = sym (wrong_entry-drop k m w (length rest) (rw (l.left_behind, t)))
+  wrong t = sym (wrong_entry-drop k m w (j - 1) (rw (next, t)))
 
   pub negative_wrong : negative_in_A k e ≡ true → true ≡ wrong_entry k m w
-  negative_wrong n = wrong (wrong_at-negative k m e (drop (length front) w) n)
+  negative_wrong n = wrong (wrong_at-negative k m e (drop j w) n)
 
   -- it is not negative in kind A, and has the size s
   module _ (n : negative_in_A k e ≡ false) {s : ℕ} (q : s ≡ nat_abs e) where
     pub zero_wrong : s ≡ 0 → true ≡ wrong_entry k m w
-    zero_wrong z = wrong (wrong_at_zero k m s e (drop (length front) w) q z)
+    zero_wrong z = wrong (wrong_at_zero k m s e (drop j w) q z)
 
     module _ (f : s ≡ 0 → ⊥) where
       pub above_wrong : m < s → true ≡ wrong_entry k m w
-      above_wrong g = wrong (wrong_at-above k m s e (drop (length front) w) q f g)
+      above_wrong g = wrong (wrong_at-above k m s e (drop j w) q f g)
 
       module _ (g : s ≤ m) (c : m ≤ 64) where
-        mark : get_or marks (s - 1) false ≡ has_size s (drop (length front) w)
+        mark : get_or marks (s - 1) false ≡ has_size s (drop j w)
         mark =
             let i : suc (s - 1) ≡ s = omega arith in
-            subst (λ (x : ℕ). get_or marks (s - 1) false ≡ has_size x (drop (length front) w)) i (h.marked (s - 1) (omega arith))
+            subst (λ (x : ℕ). get_or marks (s - 1) false ≡ has_size x (drop j w)) i (h.marked (s - 1) (omega arith))
 
         pub repeated_wrong : get_or marks (s - 1) false ≡ true → true ≡ wrong_entry k m w
-        repeated_wrong t = wrong (wrong_at_repeats k m s e (drop (length front) w) q f g (sym mark ∙ t))
+        repeated_wrong t = wrong (wrong_at_repeats k m s e (drop j w) q f g (sym mark ∙ t))
 
-        pub marked_from_next : get_or marks (s - 1) false ≡ false → MarkedFrom k m w (set marks (s - 1) true) (length rest)
+        pub marked_from_next : get_or marks (s - 1) false ≡ false → MarkedFrom k m w (set marks (s - 1) true) (j - 1)
         unfolding has_size wrong_entry
         marked_from_next t =
             record {
-              inside = omega (arith, h.inside, l.shorter);
+              inside = omega (arith, h.inside);
               room = length-set marks (s - 1) true ∙ h.room;
-              marked = λ p b. rw l.left_behind (sized p b);
-              right = rw (l.left_behind, wrong_at_else k m s e (drop (length front) w) q f g (sym mark ∙ t) ∙ n) h.right;
+              marked = λ p b. rw next (sized p b);
+              right = rw (next, wrong_at_else k m s e (drop j w) q f g (sym mark ∙ t) ∙ n) h.right;
             }
           where
-            sized : (p : ℕ) → p < 64 → get_or (set marks (s - 1) true) p false ≡ has_size (suc p) (e ∷ drop (length front) w)
+            sized : (p : ℕ) → p < 64 → get_or (set marks (s - 1) true) p false ≡ has_size (suc p) (e ∷ drop j w)
             sized p b =
                 elim (ℕ_discrete p (s - 1)) [
                   | yes a ↦ rw (a, get_or-set_same marks (s - 1) true false (omega (arith, h.room)), eq-eqb (nat_abs e) (suc (s - 1)) (sym q ∙ omega arith))

@@ -18,7 +18,7 @@ use Rattle.traces.proofs.Tracing.{Ready, Carried, Inserted}
 use Rattle.rewriter.specs.declared.ending.Ending.{Ending}
 use Rattle.std.specs.Prelude.{Option as Maybe, Some, None, MatchOption}
 use Rattle.rewriter.proofs.carrying.Shifting.{put}
-use Rattle.rewriter.proofs.carrying.CarriedSteps.{Noted, carried_step, inserted_step, inserted_end}
+use Rattle.rewriter.proofs.carrying.CarriedSteps.{Noted, carried_ready, carried_step, inserted_step, inserted_end, inserted_after}
 use Rattle.rewriter.proofs.carrying.Passing.{ready_inside}
 use Rattle.rewriter.proofs.ending.Ends.{told, ending_of}
 
@@ -56,6 +56,14 @@ module _ {k : Kind} {n : ℕ} {rest : List ℕ} {s : ℕ} {families places lengt
   pub turn_none : (m : Maybe Ending) → m ≡ ending_of (lowest_redex k n (take (suc q) word)) → m ≡ None
       → Inserted k n rest s families places lengths word s families places lengths word (length word)
   turn_none m e z = inserted_end a (not_found _ m e z) (length word) refl
+
+  -- the letter stands at the word's front
+  turn_front : q ≤ 0 → Inserted k n rest s families places lengths word s families places lengths word (length word)
+  turn_front l = inserted_end a (nowhere (lowest_redex k n (take (suc q) word)) refl) (length word) refl
+    where
+      nowhere : (o : Option Redex) → lowest_redex k n (take (suc q) word) ≡ o → o ≡ none
+      nowhere none e = refl
+      nowhere (some u) e = absurd (omega (arith, reading_lower k n a.rank word q a.reading u e))
 
   module _ (r : Ending) {m : Maybe Ending} (e : m ≡ ending_of (lowest_redex k n (take (suc q) word))) (z : m ≡ Some r) where
     have : StepFound (lowest_redex k n (take (suc q) word)) r
@@ -103,6 +111,12 @@ abbrev pub Moved : Kind → ℕ → List ℕ → Noted → Noted → ℕ → May
 Moved k n rest a b size o =
     MatchOption o (Inserted k n rest a.steps a.families a.places a.lengths a.word b.steps b.families b.places b.lengths b.word size)
     (λ q. (size ≡ length a.word) × Carried k n rest a.steps a.families a.places a.lengths a.word b.steps b.families b.places b.lengths b.word q)
+
+-- at the front of the word the letter stays
+pub carried_front : {k : Kind} {n : ℕ} {rest : List ℕ} {s : ℕ} {families places lengths word : List ℕ} {s' : ℕ} {families' places' lengths' word' : List ℕ} {t q : ℕ}
+    → Ready k n rest s families places lengths word t → Carried k n rest s families places lengths word s' families' places' lengths' word' q → q ≡ 0
+    → Inserted k n rest s families places lengths word s' families' places' lengths' word' (length word)
+carried_front a b z = inserted_after b (rw (← b.size) (turn_front (carried_ready b a) (omega (arith, z))))
 
 -- how many places are left for the letter that moves
 abbrev pub reach : Maybe ℕ → ℕ

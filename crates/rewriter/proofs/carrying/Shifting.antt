@@ -4,12 +4,12 @@
 -- Assumes nothing.
 use mathlib.Core.Path.{◌≡◌, refl, sym, ap, ap₂, ◌∙◌}
 use mathlib.Core.Bool.{Bool, true}
-use mathlib.Core.List.{List, ◌∷◌, ◌++◌, append_assoc}
-use Prim.Native.Nat.{ℕ, zero, suc, ◌+◌, ◌-◌, ◌≤◌, ◌<◌}
+use mathlib.Core.List.{List, ◌∷◌, ◌++◌}
+use Prim.Native.Nat.{ℕ, zero, suc, ◌-◌, ◌≤◌, ◌<◌}
 use native.Mathlib.Decide.{ℕ_discrete}
 use native.Mathlib.Omega.{arith}
 use lib.ListN.{length, get_or, take, drop, set, get_or-append}
-use lib.Seq.{length-take-le, take-suc, drop-cons, append_snoc, split_at, set_at, set-set, paste, get_or-take}
+use lib.Seq.{length-take-le, take-suc, drop-cons, append_snoc, split_at, set_at, set-set, get_or-take}
 use Rattle.traces.proofs.TwoLetters.{commuting}
 
 -- ---- by one to the right
@@ -20,17 +20,6 @@ put w t q y = take t w ++ ((y ∷ take (q - t) (drop t w)) ++ drop (suc q) w)
 
 pub put_none : (w : List ℕ) (q : ℕ) → q < length w → w ≡ put w q q (get_or w q 0)
 put_none w q h = let e : q - q ≡ 0 = omega arith in rw e (split_at w q 0 h)
-
--- y put at `place` after the letters from there up to before q were copied by one place on
-pub put_copied : (w : List ℕ) (place q y : ℕ) → place ≤ q → q < length w
-    → set (paste w (place + 1) (drop place w) (q - place)) place y ≡ put w place q y
-put_copied w place q y l h =
-    let s : place + 1 ≡ suc place = omega arith in
-    let e : suc place + (q - place) ≡ suc q = omega arith in
-    let moved : List ℕ = take (q - place) (drop place w) in
-    let m : List ℕ = moved ++ drop (suc q) w in
-    rw (s, e, append_assoc (take (suc place) w) moved (drop (suc q) w), take-suc w place 0 (omega arith), append_snoc (take place w) (get_or w place 0) m)
-    (set_at (take place w) (get_or w place 0) m y place (length-take-le place w (omega arith)))
 
 module _ (w word : List ℕ) (q : ℕ) (h : q < length w) where
   pub put_set : (t y : ℕ) → t ≤ q → word ≡ put w t q (get_or w t 0) → set word t y ≡ put w t q y
@@ -56,7 +45,11 @@ module _ (w word : List ℕ) (q : ℕ) (h : q < length w) where
       (put_set (suc t) b l e ∙ ap (λ (v : List ℕ). v ++ ((b ∷ m) ++ drop (suc q) w)) (take-suc w t 0 (omega arith))
       ∙ append_snoc (take t w) b ((b ∷ m) ++ drop (suc q) w)
       ∙ ap (λ (v : List ℕ). take t w ++ ((b ∷ v) ++ drop (suc q) w)) (sym inner))
-  -- ---- past letters that commute
+
+  pub put_end : (t place first : ℕ) → place ≤ t → t ≤ place → place ≤ q → word ≡ put w t q (get_or w t 0) → set word place first ≡ put w place q first
+  put_end t place first a b l e = let z : t ≡ place = omega arith in put_set place first l (rw z at e)
+
+-- ---- past letters that commute
 
 -- y swapped with the letter before it
 pub put-commuted : (w : List ℕ) (q p y : ℕ) → q < length w → suc p ≤ q

@@ -1,17 +1,21 @@
--- `length_of_window` hands on the refusal of its checks, or measures the length.
+-- `length_of_window` is the total of what `crossings_of_window` counts, or the same refusal.
 -- Assumes nothing.
-use mathlib.Core.Path.{refl}
-use Rattle.coxeter.specs.Calls.{length_of_window}
-use Rattle.coxeter.proofs.Outcomes.{answer_length}
-use Rattle.window.proofs.HandedOn.{answer_handed_on}
+use mathlib.Core.Path.{sym, ap, ◌∙◌}
+use native.Mathlib.Omega.{arith}
+use Rattle.coxeter.proofs.Totals.{totalled, totalled-window, crossings_of_window_small}
+use Rattle.window.proofs.HandedOn.{total_handed_on}
 use Rattle.window.proofs.length_of_window.Goals as goal
 
-pub returns-in_err-window : goal.returns-in_err-window
-unfolding length_of_window
-returns-in_err-window c = answer_handed_on _ _ _ _ c.from_residual.ensures c.in_err-window.ensures.refusal
+pub returns-in_err-counts : goal.returns-in_err-counts
+returns-in_err-counts c = total_handed_on _ _ c.from_residual.ensures c.in_err-counts.ensures ∙ totalled-window _ _ _
+
+pub overflow_add-result : goal.overflow_add-result
+overflow_add-result c =
+    record { fits = omega (arith, crossings_of_window_small _ _ _ _ _ _ (sym c.in_ok-counts.ensures)) }
+
+pub overflow_add-result-2 : goal.overflow_add-result-2
+overflow_add-result-2 c =
+    record { fits = omega (arith, crossings_of_window_small _ _ _ _ _ _ (sym c.in_ok-counts.ensures)) }
 
 pub returns : goal.returns
-unfolding length_of_window
-returns c =
-    let h = c.in_ok-window.ensures.window in
-    answer_length _ 0 _ _ c.in_ok-window.ensures.refusal refl (rw (h.0, h.2) at c.length_of.ensures)
+returns c = ap totalled c.in_ok-counts.ensures ∙ totalled-window _ _ _

@@ -7,8 +7,8 @@ use Rattle.book.proofs.runs.put_run.Goals as goal
 pub loop-i-preserved : goal.loop-i-preserved
 loop-i-preserved c =
     let inv = c.loop-i.invariant in
-    let put = rw c.numbers_of.ensures at c.copy_to.ensures in
-    (omega arith, c.copy_to.auto.out ∙ inv.1, inv.2 ∙ run_step _ _ _ _ _ _ c.loop-i-test.true c.preset.ensures put)
+    let put = rw c.numbers_of.ensures at c.put_five.ensures in
+    (omega arith, c.put_five.auto.fields ∙ inv.1, inv.2 ∙ run_step _ _ _ _ _ _ c.loop-i-test.true c.preset.ensures put)
 
 pub returns : goal.returns
 returns c = let inv = c.loop-i.invariant in sym (inv.2 ∙ run_end _ _ _ _ _ _ c.loop-i-test.false)

@@ -1,17 +1,14 @@
 -- What `search` leaves open of the proof of `length::parts_of`.
-use mathlib.Core.Path.{◌≡◌, sym, ap, ◌∙◌}
+use mathlib.Core.Path.{◌≡◌, ap, ◌∙◌}
 use Prim.Native.Nat.{◌-◌, ◌≤◌}
 use native.Mathlib.Omega.{arith}
-use lib.IntN.{pos, nat_abs}
+use lib.IntN.{ℤ, pos, nat_abs}
 use lib.ListN.{length, get_or}
-use Rattle.std.specs.Iterator.Adapters.{rev_source}
-use Rattle.std.specs.Slice.Iter.{iter_rest}
 use Rattle.coxeter.specs.declared.Kind.TheVariants.{B}
 use Rattle.coxeter.specs.declared.Window.{Window}
 use Rattle.coxeter.specs.Checks.{WindowOf}
 use Rattle.coxeter.specs.Length.{negative}
 use Rattle.coxeter.proofs.Groups.{group_lanes_le}
-use Rattle.refusals.proofs.Backwards.{LastTaken, front_whole, last_taken}
 use Rattle.refusals.proofs.Bytes.{element_back}
 use Rattle.window.proofs.length.OnePass.{gone_none, size_bounds, set_fits, sums_fit, pairs_fit, left, gone_negative, gone_positive, parts}
 use Rattle.window.proofs.length.Sums.{square_fits, refusal-B, length_le_of_lanes}
@@ -28,81 +25,68 @@ own w = refusal-B _ _ _ w.accepted
 pub overflow_mul-pairs : goal.overflow_mul-pairs
 overflow_mul-pairs c = record { fits = omega (arith, (square_fits _ (few c.args.window)).0) }
 
-pub loop-e-init : goal.loop-e-init
-loop-e-init c =
-    rw (c.into_iter-e-iterator.ensures.into_iter_gives, c.rev-e-items.ensures.source, c.iter.ensures.rest)
-    (tt, tt, front_whole _, gone_none _)
+pub loop-i-init : goal.loop-i-init
+loop-i-init c = gone_none _
 
--- the entry of this turn is the last of those left
-taken : (c : After-size-s) → LastTaken (iter_rest (rev_source c.loop-e.e-iterator)) (iter_rest (rev_source c.next.new.self)) c.args.window.entries.now c.in-Some.e.now (pos 0)
-taken c = last_taken _ _ _ _ _ c.loop-e.invariant.2 (rw c.in-Some.is at c.next.ensures.steps)
-
--- the size that was computed is that of this entry
-size_of : (c : After-size-s) → c.size-s.result ≡ nat_abs (get_or c.args.window.entries.now (length (iter_rest (rev_source c.loop-e.e-iterator)) - 1) (pos 0))
-size_of c = c.size-s.ensures ∙ ap nat_abs (element_back c.in-Some.e.now (omega arith) ∙ sym (taken c).at_end)
+-- the size that was computed is that of the entry before the place reached
+size_of : (c : After-size-s) → c.size-s.result ≡ nat_abs (get_or c.args.window.entries.now (c.loop-i.i - 1) (pos 0))
+size_of c =
+    let e : ℤ = get_or c.args.window.entries.now (c.loop-i.i - 1) (pos 0) in
+    c.size-s.ensures ∙ ap nat_abs (element_back e c.e-1.given)
 
 bounds : (c : After-size-s) → (1 ≤ c.size-s.result) × (c.size-s.result ≤ length c.args.window.entries.now)
-bounds c = size_bounds c.loop-e.invariant.3 (taken c).some_left (few c.args.window) (own c.args.window) (size_of c)
+bounds c = size_bounds c.loop-i.invariant (omega arith) (few c.args.window) (own c.args.window) (size_of c)
 
 pub larger_behind-larger-requires : goal.larger_behind-larger-requires
 larger_behind-larger-requires c =
     let b = bounds c in
-    (b.0, omega (arith, b.1, (few c.args.window)), set_fits c.loop-e.invariant.3 (taken c).some_left (few c.args.window) (own c.args.window) (size_of c))
+    (b.0, omega (arith, b.1, (few c.args.window)), set_fits c.loop-i.invariant (omega arith) (few c.args.window) (own c.args.window) (size_of c))
 
 pub with_size-behind-requires : goal.with_size-behind-requires
 with_size-behind-requires c = let b = bounds c.before in (b.0, omega (arith, b.1, (few c.args.window)))
 
 -- the sign is that of the same entry
-sign_of : (c : After-is_negative) → c.is_negative.result ≡ negative (get_or c.args.window.entries.now (length (iter_rest (rev_source c.loop-e.e-iterator)) - 1) (pos 0))
-sign_of c = c.is_negative.ensures ∙ ap negative (element_back c.in-Some.e.now (omega arith) ∙ sym (taken c.before.before.before.before).at_end)
+sign_of : (c : After-is_negative) → c.is_negative.result ≡ negative (get_or c.args.window.entries.now (c.loop-i.i - 1) (pos 0))
+sign_of c =
+    let e : ℤ = get_or c.args.window.entries.now (c.loop-i.i - 1) (pos 0) in
+    c.is_negative.ensures ∙ ap negative (element_back e c.e-1.given)
 
 pub overflow_add-pairs : goal.overflow_add-pairs
 overflow_add-pairs c =
-    let k = c.before.before.before.before.before in
-    let fits = pairs_fit c.loop-e.invariant.3 (taken k).some_left (few c.args.window) (own c.args.window) (size_of k) c.larger_behind-larger.ensures
+    let k = c.before.before.before.before in
+    let fits = pairs_fit c.loop-i.invariant (omega arith) (few c.args.window) (own c.args.window) (size_of k) c.larger_behind-larger.ensures
     (sign_of c.before) c.if-is_negative.true in
     record { fits = omega (arith, fits) }
 
 pub overflow_sub-negative_sum_pairs : goal.overflow_sub-negative_sum_pairs
-overflow_sub-negative_sum_pairs c = (bounds c.before.before.before.before.before).1
+overflow_sub-negative_sum_pairs c = (bounds c.before.before.before.before).1
 
 -- the sums over the entries behind
-small : (c : After-size-s) → (c.loop-e.negative_sum_pairs ≤ 4096) × (c.loop-e.negatives ≤ 64)
-small c = sums_fit c.loop-e.invariant.3 (taken c).some_left (few c.args.window) (own c.args.window) (size_of c)
+small : (c : After-size-s) → (c.loop-i.negative_sum_pairs ≤ 4096) × (c.loop-i.negatives ≤ 64)
+small c = sums_fit c.loop-i.invariant (omega arith) (few c.args.window) (own c.args.window) (size_of c)
 
 pub overflow_add-negative_sum_pairs : goal.overflow_add-negative_sum_pairs
-overflow_add-negative_sum_pairs c = record { fits = omega (arith, small c.before.before.before.before.before, (few c.args.window)) }
+overflow_add-negative_sum_pairs c = record { fits = omega (arith, small c.before.before.before.before, (few c.args.window)) }
 
 pub overflow_add-negatives : goal.overflow_add-negatives
-overflow_add-negatives c = record { fits = omega (arith, small c.before.before.before.before.before) }
+overflow_add-negatives c = record { fits = omega (arith, small c.before.before.before.before) }
 
-pub loop-e-preserved-then-is_negative : goal.loop-e-preserved-then-is_negative
-loop-e-preserved-then-is_negative c =
-    let k = c.before.before.before.before.before in
-    let t = taken k in (
-      tt,
-      tt,
-      t.front_left,
-      rw (c.with_size-behind.ensures, t.shorter)
-          (gone_negative c.loop-e.invariant.3 t.some_left (few c.args.window) (own c.args.window) (size_of k) c.larger_behind-larger.ensures (sign_of c.before) c.if-is_negative.true),
-    )
+pub loop-i-preserved-then-is_negative : goal.loop-i-preserved-then-is_negative
+loop-i-preserved-then-is_negative c =
+    let k = c.before.before.before.before in
+    rw c.with_size-behind.ensures
+    (gone_negative c.loop-i.invariant (omega arith) (few c.args.window) (own c.args.window) (size_of k) c.larger_behind-larger.ensures (sign_of c.before) c.if-is_negative.true)
 
 pub overflow_sub-pairs-else-is_negative : goal.overflow_sub-pairs-else-is_negative
 overflow_sub-pairs-else-is_negative c =
-    let k = c.before.before.before.before.before in
-    left c.loop-e.invariant.3 (taken k).some_left (few c.args.window) (own c.args.window) (size_of k) c.larger_behind-larger.ensures (sign_of c.before) c.if-is_negative.false
+    let k = c.before.before.before.before in
+    left c.loop-i.invariant (omega arith) (few c.args.window) (own c.args.window) (size_of k) c.larger_behind-larger.ensures (sign_of c.before) c.if-is_negative.false
 
-pub loop-e-preserved : goal.loop-e-preserved
-loop-e-preserved c =
-    let k = c.before.before.before.before.before in
-    let t = taken k in (
-      tt,
-      tt,
-      t.front_left,
-      rw (c.with_size-behind.ensures, t.shorter)
-          (gone_positive c.loop-e.invariant.3 t.some_left (few c.args.window) (own c.args.window) (size_of k) c.larger_behind-larger.ensures (sign_of c.before) c.if-is_negative.false),
-    )
+pub loop-i-preserved : goal.loop-i-preserved
+loop-i-preserved c =
+    let k = c.before.before.before.before in
+    rw c.with_size-behind.ensures
+    (gone_positive c.loop-i.invariant (omega arith) (few c.args.window) (own c.args.window) (size_of k) c.larger_behind-larger.ensures (sign_of c.before) c.if-is_negative.false)
 
 pub returns : goal.returns
-returns c =
-    parts c.loop-e.invariant.3 (rw c.in-None.is at c.next.ensures.steps).0 (few c.args.window) (own c.args.window)
+returns c = parts c.loop-i.invariant (omega (arith, c.loop-i-test.false)) (few c.args.window) (own c.args.window)

@@ -21,15 +21,15 @@ pub returns-then-has_wrong_lanes : goal.returns-then-has_wrong_lanes
 returns-then-has_wrong_lanes c =
     lanes_refused _ _ _ c.kind-kind.ensures c.rank-rank.ensures c.in_ok-group.ensures.refusal refl c.has_wrong_lanes.ensures c.if-has_wrong_lanes.true
 
-pub returns-in_err-accepted_word : goal.returns-in_err-accepted_word
-returns-in_err-accepted_word c =
-    ap as_preset (refused_with _ _ c.from_residual-in_err-accepted_word.ensures)
+pub returns-in_err-accepted_letters : goal.returns-in_err-accepted_letters
+returns-in_err-accepted_letters c =
+    ap as_preset (refused_with _ _ c.from_residual-in_err-accepted_letters.ensures)
     ∙ word_refused _ _ _ c.kind-kind.ensures c.rank-rank.ensures c.in_ok-group.ensures.refusal refl c.has_wrong_lanes.ensures c.if-has_wrong_lanes.false
-    c.letters.ensures c.in_err-accepted_word.ensures.refusal (number_positive _)
+    c.letters.ensures (rw c.in_ok-group.ensures.group.1 at c.in_err-accepted_letters.ensures.refusal) (number_positive _)
 
 pub returns : goal.returns
 returns c =
     let g = c.in_ok-group.ensures.group in
     rw (g.0, g.1, c.letters_start.ensures, c.letter_count.ensures)
     (record_found _ _ _ c.kind-kind.ensures c.rank-rank.ensures c.in_ok-group.ensures.refusal refl c.has_wrong_lanes.ensures c.if-has_wrong_lanes.false
-    c.letters.ensures c.in_ok-accepted_word.ensures.refusal refl)
+    c.letters.ensures (rw g.1 at c.in_ok-accepted_letters.ensures.refusal) refl)
