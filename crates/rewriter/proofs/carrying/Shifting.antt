@@ -1,6 +1,6 @@
--- The turns of the loops of the module `carrying` that move letters of the word by one or by two places.
+-- The turns of the loops of the module `carrying` that move letters of the word by one place.
 --
--- Sections: by one to the right; past letters that commute; by two to the left.
+-- Sections: by one to the right; past letters that commute.
 -- Assumes nothing.
 use mathlib.Core.Path.{◌≡◌, refl, sym, ap, ap₂, ◌∙◌}
 use mathlib.Core.Bool.{Bool, true}
@@ -72,5 +72,3 @@ module _ (n c : ℕ) (w : List ℕ) (q x : ℕ) where
     | yes g ↦ rw (g, ← e, ← d) z
     | no g ↦ f j (omega arith) b
   ]
-
--- ---- by two to the left
